@@ -1,1 +1,9 @@
 pub mod Lists
+pub mod Project
+pub mod Circles
+pub mod Walk
+pub mod Modules
+pub mod Paths
+pub mod Items
+pub mod Calls
+pub mod Sheets
