@@ -257,3 +257,59 @@ injectedBytes = projectBytes 2 (0 ∷ 4 ∷ 1 ∷ 4 ∷ []) (0 ∷ 1 ∷ []) (2 
 injected : order injectedBytes 2 0 ≡ given 2 1 3 4 (1 ∷ 0 ∷ [])
 unfolding order injectedBytes
 injected = refl
+
+-- Circles are followed depth first: import 0→1, circles [2,3] [1,4] [2,1,0] [5,3]. From 0: 2, 1, 0 are gathered; following 2 gathers 3 and, from 3,
+-- 5; following 1 then gathers 4.
+depthBytes : List ℕ
+unfolding projectBytes
+depthBytes = projectBytes 6 [] (0 ∷ 1 ∷ []) (2 ∷ 2 ∷ 3 ∷ 2 ∷ 1 ∷ 4 ∷ 3 ∷ 2 ∷ 1 ∷ 0 ∷ 2 ∷ 5 ∷ 3 ∷ []) []
+
+depth-first : grouping depthBytes 42 0 ≡ given 0 1 7 0 (6 ∷ 4 ∷ 5 ∷ 3 ∷ 0 ∷ 1 ∷ 2 ∷ [])
+unfolding grouping depthBytes
+depth-first = refl
+
+-- Member order is that of the reversed circle: imports 2→1 0→3, circle [0,2]. The outside imports of [2,0] are 1, 3.
+memberBytes : List ℕ
+unfolding projectBytes
+memberBytes = projectBytes 4 [] (2 ∷ 1 ∷ 0 ∷ 3 ∷ []) (2 ∷ 0 ∷ 2 ∷ []) []
+
+member-order : grouping memberBytes 20 0 ≡ given 0 4 8 0 (1 ∷ 1 ∷ 1 ∷ 3 ∷ 1 ∷ 0 ∷ 1 ∷ 2 ∷ [])
+unfolding grouping memberBytes
+member-order = refl
+
+-- Repeats are kept: imports 0→1 2→1, circle [0,2]. 1 goes to the list twice.
+repeatsBytes : List ℕ
+unfolding projectBytes
+repeatsBytes = projectBytes 3 [] (0 ∷ 1 ∷ 2 ∷ 1 ∷ []) (2 ∷ 0 ∷ 2 ∷ []) []
+
+repeats : grouping repeatsBytes 12 0 ≡ given 0 3 7 0 (1 ∷ 1 ∷ 1 ∷ 0 ∷ 1 ∷ 2 ∷ [])
+unfolding grouping repeatsBytes
+repeats = refl
+
+-- The imports of done members count: imports 3→1 1→0 0→3 2→0 0→2, circles [2,1] [3].
+doneMemberBytes : List ℕ
+unfolding projectBytes
+doneMemberBytes = projectBytes 4 [] (3 ∷ 1 ∷ 1 ∷ 0 ∷ 0 ∷ 3 ∷ 2 ∷ 0 ∷ 0 ∷ 2 ∷ []) (2 ∷ 2 ∷ 1 ∷ 1 ∷ 3 ∷ []) []
+
+done-member : grouping doneMemberBytes 20 0 ≡ given 0 2 21 0 (2 ∷ 3 ∷ 1 ∷ 3 ∷ 1 ∷ 2 ∷ 0 ∷ [])
+unfolding grouping doneMemberBytes
+done-member = refl
+
+-- A group of two modules is sorted though one alone gives items: rows (0,4) (0,0), import 0→1, circle [1,0].
+oneGivesBytes : List ℕ
+unfolding projectBytes
+oneGivesBytes = projectBytes 2 (0 ∷ 4 ∷ 0 ∷ 0 ∷ []) (0 ∷ 1 ∷ []) (2 ∷ 1 ∷ 0 ∷ []) []
+
+one-gives : order oneGivesBytes 2 0 ≡ given 2 1 3 3 (1 ∷ 0 ∷ [])
+unfolding order oneGivesBytes
+one-gives = refl
+
+-- An empty run's start is a start: rows (0,0) (0,0) (1,4), import 0→1, circle [0,1]. Module 0 runs from 0, module 1 has an empty run at 2, and 2 is
+-- the injected item.
+emptyRunBytes : List ℕ
+unfolding projectBytes
+emptyRunBytes = projectBytes 2 (0 ∷ 0 ∷ 0 ∷ 0 ∷ 1 ∷ 4 ∷ []) (0 ∷ 1 ∷ []) (2 ∷ 0 ∷ 1 ∷ []) []
+
+empty-run : order emptyRunBytes 3 0 ≡ given 3 1 3 4 (0 ∷ 2 ∷ 1 ∷ [])
+unfolding order emptyRunBytes
+empty-run = refl
