@@ -88,22 +88,26 @@ endOf bytes s = offsetOf bytes s + lengthOf bytes s
 unfoldable pub section : List ℕ → ℕ → List ℕ
 section bytes s = take (lengthOf bytes s) (drop (offsetOf bytes s) bytes)
 
--- The rows.
-unfoldable pub itemRows : List ℕ → List Item
-itemRows [] = []
-itemRows (a ∷ []) = []
-itemRows (a ∷ b ∷ rest) = record { inModule = a; kind = b } ∷ itemRows rest
+-- The rows: of 2 bytes for items and imports, of 3 for needs.
+unfoldable pub pairRows : {A : Type 0} → (ℕ → ℕ → A) → List ℕ → List A
+pairRows row [] = []
+pairRows row (a ∷ []) = []
+pairRows row (a ∷ b ∷ rest) = row a b ∷ pairRows row rest
 
-unfoldable pub importRows : List ℕ → List Import
-importRows [] = []
-importRows (a ∷ []) = []
-importRows (a ∷ b ∷ rest) = record { importer = a; imported = b } ∷ importRows rest
+abbrev pub itemRow : ℕ → ℕ → Item
+itemRow a b = record { inModule = a; kind = b }
+
+abbrev pub importRow : ℕ → ℕ → Import
+importRow a b = record { importer = a; imported = b }
+
+abbrev pub needRow : ℕ → ℕ → ℕ → Need
+needRow a b c = record { dependant = a; dependency = b; weight = c }
 
 unfoldable pub needRows : List ℕ → List Need
 needRows [] = []
 needRows (a ∷ []) = []
 needRows (a ∷ b ∷ []) = []
-needRows (a ∷ b ∷ c ∷ rest) = record { dependant = a; dependency = b; weight = c } ∷ needRows rest
+needRows (a ∷ b ∷ c ∷ rest) = needRow a b c ∷ needRows rest
 
 -- "lists, each a count byte and that many module numbers. A count of 0 and a repeated member are allowed."
 -- What stands where a list still lacks `left` members: those members, and behind them the lists that follow.
@@ -182,8 +186,8 @@ projectOf bytes =
     record {
       modules = byteAt bytes 1;
       entry = byteAt bytes 2;
-      items = itemRows (section bytes 0);
-      imports = importRows (section bytes 1);
+      items = pairRows itemRow (section bytes 0);
+      imports = pairRows importRow (section bytes 1);
       circles = circleLists (section bytes 2);
       needs = needRows (section bytes 3);
     }

@@ -6,7 +6,7 @@ use mathlib.Core.Bool.{Bool, true, false}
 use mathlib.Core.List.{List, [], _∷_, _++_, flatMap, flatten}
 use lib.ListN.{length, take}
 use Rattle.rules.specs.Lists.{isEmpty, consIf, keep, any, all, positionsFrom, upFrom, elem, appendNew, different}
-use Rattle.rules.specs.Project.{Reading, refused, accepted, number32, offsetOf, lengthOf, endOf, section, itemRows, importRows, needRows, joinFirst, listsFrom, circleLists, stub, foreign, misplaced, ragged, outsize, badItem, badImport, badCircles, badNeed, projectOf, read}
+use Rattle.rules.specs.Project.{Reading, refused, accepted, number32, offsetOf, lengthOf, endOf, section, pairRows, needRows, joinFirst, listsFrom, circleLists, stub, foreign, misplaced, ragged, outsize, badItem, badImport, badCircles, badNeed, projectOf, read}
 use Rattle.rules.specs.Circles.{listedWith, withFound, followMember, followMembers, followModule, gatheredOf, gather}
 use Rattle.rules.specs.Walk.{run}
 use Rattle.rules.specs.Modules.{importsOf, isDone, undoneImports, circleOf, outsideImports, withGroup, visitModule, moduleList, groupsOf, moduleStart, runModules, groupsInOrder}
@@ -16,11 +16,11 @@ use Rattle.rules.specs.Calls.{Answer, refusal, allowed, orderBytes, grou
 
 -- A call on a project's bytes with a reply of `space` bytes.
 order : List ℕ → ℕ → ℕ → Answer
-unfolding isEmpty consIf keep any all positionsFrom upFrom elem appendNew different flatMap flatten number32 offsetOf lengthOf endOf section itemRows importRows needRows joinFirst listsFrom circleLists stub foreign misplaced ragged outsize badItem badImport badCircles badNeed projectOf read listedWith withFound followMember followMembers followModule gatheredOf gather run importsOf isDone undoneImports circleOf outsideImports withGroup visitModule moduleList groupsOf moduleStart runModules groupsInOrder dependenciesOf dependantsOf isNeed weightIn canReach enters inPaths isKept isInjected mayDrop noItem itemAt kindAt keptRows keptRowsOf givingModules givenRows keepsRowOrder uninjectedRows injectedRows numbering rangesFrom inRange numbersOf rangeOf numberOf isAmong numbered groupOf kindOf numbers pathHolds weightOf sameRange starts firstList hasMoved withOpen findOpen isDropped waiting oneByOne preceding afterPreceding afterOpen visitItem itemList placedOf itemStart orderOf sortModules sortGroup refusal allowed orderBytes continueWith orderGroups orderAnswer afterGroups orderOfProject orderCall
+unfolding isEmpty consIf keep any all positionsFrom upFrom elem appendNew different flatMap flatten number32 offsetOf lengthOf endOf section pairRows needRows joinFirst listsFrom circleLists stub foreign misplaced ragged outsize badItem badImport badCircles badNeed projectOf read listedWith withFound followMember followMembers followModule gatheredOf gather run importsOf isDone undoneImports circleOf outsideImports withGroup visitModule moduleList groupsOf moduleStart runModules groupsInOrder dependenciesOf dependantsOf isNeed weightIn canReach enters inPaths isKept isInjected mayDrop noItem itemAt kindAt keptRows keptRowsOf givingModules givenRows keepsRowOrder uninjectedRows injectedRows numbering rangesFrom inRange numbersOf rangeOf numberOf isAmong numbered groupOf kindOf numbers pathHolds weightOf sameRange starts firstList hasMoved withOpen findOpen isDropped waiting oneByOne preceding afterPreceding afterOpen visitItem itemList placedOf itemStart orderOf sortModules sortGroup refusal allowed orderBytes continueWith orderGroups orderAnswer afterGroups orderOfProject orderCall
 order bytes space allowance = orderCall bytes space allowance
 
 grouping : List ℕ → ℕ → ℕ → Answer
-unfolding isEmpty consIf keep any upFrom elem appendNew different flatMap flatten number32 offsetOf lengthOf endOf section itemRows importRows needRows joinFirst listsFrom circleLists stub foreign misplaced ragged outsize badItem badImport badCircles badNeed projectOf read listedWith withFound followMember followMembers followModule gatheredOf gather run importsOf isDone undoneImports circleOf outsideImports withGroup visitModule moduleList groupsOf moduleStart runModules groupsInOrder refusal allowed groupsBytes groupBytes groupsAnswer groupsOfProject groupsCall
+unfolding isEmpty consIf keep any upFrom elem appendNew different flatMap flatten number32 offsetOf lengthOf endOf section pairRows needRows joinFirst listsFrom circleLists stub foreign misplaced ragged outsize badItem badImport badCircles badNeed projectOf read listedWith withFound followMember followMembers followModule gatheredOf gather run importsOf isDone undoneImports circleOf outsideImports withGroup visitModule moduleList groupsOf moduleStart runModules groupsInOrder refusal allowed groupsBytes groupBytes groupsAnswer groupsOfProject groupsCall
 grouping bytes space allowance = groupsCall bytes space allowance
 
 -- The answers: an order or a grouping that is given, and a refusal.
