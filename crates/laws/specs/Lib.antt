@@ -6,3 +6,12 @@ pub mod Terms
 pub mod Accepted
 pub mod Gathering
 pub mod ModuleWalk
+pub mod Orders
+pub mod PathLaws
+pub mod Splits
+pub mod ItemWalk
+pub mod GroupOrder
+pub mod FirstList
+pub mod Sums
+pub mod Classes
+pub mod ModuleOrder
