@@ -15,3 +15,8 @@ pub mod FirstList
 pub mod Sums
 pub mod Classes
 pub mod ModuleOrder
+pub mod OrderCalls
+pub mod Calls
+pub mod GivenOrders
+pub mod Entries
+pub mod Demands
