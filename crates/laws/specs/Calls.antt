@@ -1,18 +1,18 @@
 -- The calls on an accepted project: what a call that answers 0 has done, and the visits that every call reports. Assumes nothing.
-use Prim.Native.Nat.{ℕ, _+_, _*_, _-_, _≤_, _<_}
+use Prim.Native.Nat.{ℕ, _-_, _≤_, _<_}
 use native.Mathlib.Omega.{arith}
 use native.Mathlib.Nat.{le-of-eq}
-use mathlib.Core.Path.{_≡_, refl, sym, ap, _∙_}
-use mathlib.Core.Bool.{Bool, true, false}
-use mathlib.Core.List.{List, [], _∷_, _++_}
+use mathlib.Core.Path.{_≡_, refl}
+use mathlib.Core.Bool.{true, false}
+use mathlib.Core.List.{List, []}
 use lib.Dec.{ltb}
 use lib.ListN.{length}
-use borrow.Author.Tests.{ltb-true, ltb-false, le-ltb}
+use borrow.Author.Tests.{le-ltb}
 use Rattle.rules.specs.Project.{Project, accepted, read}
 use Rattle.rules.specs.Walk.{Stop, finished, spent, full}
 use Rattle.rules.specs.Modules.{ModuleState, groupsOf, groupsInOrder, runModules}
 use Rattle.rules.specs.Items.{keptRows}
-use Rattle.rules.specs.Calls.{Answer, refusal, allowed, moduleListLimit, itemListLimit, orderBytes, groupsBytes, groupBytes, groupsAnswer, groupsOfProject, groupsCall, orderGroups, orderAnswer, afterGroups, orderOfProject, orderCall}
+use Rattle.rules.specs.Calls.{Answer, refusal, allowed, moduleListLimit, itemListLimit, orderBytes, groupsBytes, groupsAnswer, groupsOfProject, groupsCall, orderGroups, orderAnswer, afterGroups, orderOfProject, orderCall}
 use Rattle.laws.specs.Lists.{Tested, holds, fails, tested}
 use Rattle.laws.specs.Terms.{Given, CirclesMatch, visitLimit}
 use Rattle.laws.specs.Accepted.{Accepted}

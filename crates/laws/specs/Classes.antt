@@ -16,8 +16,8 @@ use Rattle.laws.specs.Lists.{_∈_, Tested, holds, fails, tested, Once, 
 use Rattle.laws.specs.Terms.{CirclesMatch}
 use Rattle.laws.specs.Accepted.{Accepted}
 use Rattle.laws.specs.ModuleVisit.{importsOf-∈}
-use Rattle.laws.specs.Sums.{empty-∈}
 use Rattle.laws.specs.Gathering.{circle-of, circle-self, circle-tied, tied-circle, circle-below}
+use Rattle.laws.specs.Counting.{empty-∈}
 
 -- Zero or more imports lead from a module to another.
 pub data Leads (p : Project) : ℕ → ℕ → Type 0 where

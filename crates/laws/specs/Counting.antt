@@ -2,12 +2,12 @@
 use Prim.Native.Nat.{ℕ, _*_, _≤_, _<_}
 use native.Mathlib.Omega.{arith}
 use native.Mathlib.Nat.{suc-mul}
-use mathlib.Core.Path.{_≡_, refl, sym, subst, subst⁻¹}
+use mathlib.Core.Path.{_≡_, refl, sym, subst, subst⁻¹, _∙_}
 use mathlib.Core.Logic.{⊎-elim}
 use mathlib.Core.Bool.{Bool, true, false, _||_}
 use mathlib.Core.List.{List, [], _∷_, tail, flatMap, flatten, List·Memᴰ·head, List·Memᴰ·tail, List·Memᴰ·cases-cons, List·Memᴰ·not-nil}
 use lib.ListN.{length, length-append}
-use Rattle.rules.specs.Lists.{isEmpty, any, upFrom}
+use Rattle.rules.specs.Lists.{isEmpty, any, upFrom, keep, consIf}
 use Rattle.laws.specs.Lists.{_∈_, false≢true, Tested, holds, fails, tested, any-false, ∈-append, ∈-left, ∈-right, ∈-self, Once, once-length, ∈-upFrom, length-upFrom}
 
 pub neither : {a b : Bool} → (a || b) ≡ false → (a ≡ false) × (b ≡ false)
@@ -88,3 +88,12 @@ pub below-length : {bound : ℕ} {l : List ℕ} → Once l → Below bound l →
 below-length {bound} {l} o b =
     let r : length l ≤ length (upFrom 0 bound) = once-length (upFrom 0 bound) o (λ x m. ∈-upFrom 0 bound (omega arith) (omega (arith, b x m))) in
     omega (arith, length-upFrom 0 bound)
+
+module _ {A : Type 0} where
+  pub empty-∈ : {l : List A} {x : A} → isEmpty l ≡ true → x ∈ l → ⊥
+  empty-∈ e m = false≢true (sym (∈-isEmpty m) ∙ e)
+
+  pub keep-all : (test : A → Bool) (l : List A) → ((x : A) → x ∈ l → test x ≡ true) → keep test l ≡ l
+  unfolding keep consIf
+  keep-all test [] f = refl
+  keep-all test (x ∷ l) f = rw (f x ∈-self, keep-all test l (λ y m. f y (List·Memᴰ·tail m)))

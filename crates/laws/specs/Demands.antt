@@ -3,7 +3,7 @@
 use Prim.Native.Nat.{ℕ, _+_, _*_, _≤_}
 use native.Mathlib.Omega.{arith}
 use native.Mathlib.Nat.{le-trans}
-use mathlib.Core.Path.{_≡_, sym, ap, subst, subst⁻¹, _∙_}
+use mathlib.Core.Path.{_≡_, subst⁻¹}
 use mathlib.Core.Logic.{_⊎_}
 use mathlib.Core.Bool.{false}
 use mathlib.Core.List.{List, _∷_, _++_}

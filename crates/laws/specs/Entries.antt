@@ -3,14 +3,14 @@ use Prim.Native.Nat.{ℕ, _+_, _*_, _/_, _%_, _≤_, _<_}
 use native.Mathlib.Omega.{arith}
 use native.Mathlib.Nat.{div-div-eq-div-mul}
 use mathlib.Core.Path.{_≡_, refl, sym, ap, _∙_}
-use mathlib.Core.Bool.{Bool, true, false}
-use mathlib.Core.List.{List, [], _∷_, _++_, flatMap}
+use mathlib.Core.Bool.{true, false}
+use mathlib.Core.List.{List, flatMap}
 use lib.Dec.{ltb}
-use lib.ListN.{length, getD, take, drop}
+use lib.ListN.{length, take, drop}
 use lib.Seq.{take-at}
-use borrow.Author.Tests.{ltb-true, ltb-false, le-ltb}
+use borrow.Author.Tests.{ltb-false, le-ltb}
 use Rattle.rules.specs.Project.{number32}
-use Rattle.rules.specs.Calls.{Answer, Entry, overwrite, bytes32, reportBytes, reported}
+use Rattle.rules.specs.Calls.{Answer, overwrite, bytes32, reportBytes, reported}
 use Rattle.laws.specs.Lists.{Tested, holds, fails, tested}
 
 -- Four bytes give back the number of 32 bits that they were made of.

@@ -6,14 +6,14 @@ use native.Mathlib.Nat.{mul-comm, mul-add, add-mul, mul-le-mul, mul-le-mul-right
 use mathlib.Core.Path.{_≡_, refl, sym, ap, _∙_}
 use mathlib.Core.Logic.{_⊎_, inl, inr}
 use mathlib.Core.Bool.{true, false}
-use mathlib.Core.List.{List, [], _∷_, map, flatMap, List·Memᴰ·head, List·Memᴰ·tail}
+use mathlib.Core.List.{List, [], _∷_, map, flatMap, List·Memᴰ·tail}
 use lib.Dec.{eqb, ltb, leb}
 use lib.ListN.{length, length-append, length-map}
 use borrow.Author.Tests.{eqb-true, eqb-false, ltb-true, ltb-false, leb-true, leb-false}
 use Rattle.rules.specs.Lists.{isEmpty, keep, upFrom}
 use Rattle.rules.specs.Project.{Project}
 use Rattle.rules.specs.Items.{isInjected, keptRowsOf, uninjectedRows, injectedRows, numbering, Range, rangesFrom, numbersOf, rangeOf, Group, groupOf, kindOf, numbers, starts, firstList}
-use Rattle.laws.specs.Lists.{_∈_, false≢true, Tested, holds, fails, tested, ∈-self, keep-∈, once-keep, once-upFrom, once-length, upFrom-∈, ∈-upFrom, length-upFrom}
+use Rattle.laws.specs.Lists.{_∈_, false≢true, Tested, holds, fails, tested, ∈-self, keep-∈, once-keep, once-upFrom, once-length, upFrom-∈, ∈-upFrom, length-upFrom, total, ∈-total}
 use Rattle.laws.specs.Splits.{true-inRange, Found, found, nowhere, rangeOf-found, runs, in-range, gives-some, size, WellFormed, Giving, length-kinds, wellFormed, length-numbering, giving-below}
 use Rattle.laws.specs.Counting.{below-length}
 use Rattle.laws.specs.Accepted.{Accepted}
@@ -34,32 +34,25 @@ product-most e u c w h k s = go (tested (leb u w))
         omega (arith, ap (λ (z : ℕ). e * z) q, mul-add e w f, mul-le-mul-right f j, mul-comm w f, add-mul e f w, mul-le-mul-right w i)
 
 -- How many numbers ranges hold, and how many ranges are empty.
-total : List Range → ℕ
-total [] = 0
-total (r ∷ ranges) = r .count + total ranges
+abbrev counts : List Range → ℕ
+counts = total (λ (r : Range). r .count)
 
-empties : List Range → ℕ
-empties [] = 0
-empties (r ∷ ranges) = (1 - r .count) + empties ranges
-
-count-most : {r : Range} {ranges : List Range} → r ∈ ranges → r .count ≤ total ranges
-unfolding total
-count-most (List·Memᴰ·head e) = let q = ap (λ (z : Range). z .count) e in omega arith
-count-most (List·Memᴰ·tail m) = let h = count-most m in omega arith
+abbrev empties : List Range → ℕ
+empties = total (λ (r : Range). 1 - r .count)
 
 empties-most : (ranges : List Range) → empties ranges ≤ length ranges
-unfolding empties
+unfolding total
 empties-most [] = omega arith
 empties-most (r ∷ ranges) = let h = empties-most ranges in omega arith
 
 -- the ranges hold no number, or not all of them are empty
-some-holds : (ranges : List Range) → (total ranges ≡ 0) ⊎ (empties ranges < length ranges)
-unfolding total empties
+some-holds : (ranges : List Range) → (counts ranges ≡ 0) ⊎ (empties ranges < length ranges)
+unfolding total
 some-holds [] = inl refl
 some-holds (r ∷ ranges) = go (tested (eqb (r .count) 0)) (some-holds ranges)
   where
-    go : Tested (eqb (r .count) 0) → (total ranges ≡ 0) ⊎ (empties ranges < length ranges)
-        → (r .count + total ranges ≡ 0) ⊎ ((1 - r .count) + empties ranges < suc (length ranges))
+    go : Tested (eqb (r .count) 0) → (counts ranges ≡ 0) ⊎ (empties ranges < length ranges)
+        → (r .count + counts ranges ≡ 0) ⊎ ((1 - r .count) + empties ranges < suc (length ranges))
     go (holds e) (inl h) = inl (omega (arith, eqb-true (r .count) 0 e))
     go (holds e) (inr h) = inr (omega arith)
     go (fails e) h = let d = eqb-false (r .count) 0 e in inr (omega (arith, empties-most ranges))
@@ -67,36 +60,36 @@ some-holds (r ∷ ranges) = go (tested (eqb (r .count) 0)) (some-holds ranges)
 module _ (g : Group) (w : WellFormed g) where
   -- The start of a range adds its own numbers, or where it is empty those of one other range at most.
   start-length : (r : Range) → r ∈ g .ranges
-      → length (numbersOf (rangeOf (g .ranges) (r .start))) ≤ r .count + (1 - r .count) * total (g .ranges)
+      → length (numbersOf (rangeOf (g .ranges) (r .start))) ≤ r .count + (1 - r .count) * counts (g .ranges)
   unfolding numbersOf
   start-length r m = go (tested (eqb (r .count) 0))
     where
-      any-count : {q : Range} → Found (g .ranges) (r .start) q → q .count ≤ total (g .ranges)
-      any-count (found n t) = count-most n
+      any-count : {q : Range} → Found (g .ranges) (r .start) q → q .count ≤ counts (g .ranges)
+      any-count (found n t) = ∈-total (λ (r : Range). r .count) n
       any-count (nowhere n c) = omega arith
 
       go : Tested (eqb (r .count) 0)
-          → length (numbersOf (rangeOf (g .ranges) (r .start))) ≤ r .count + (1 - r .count) * total (g .ranges)
+          → length (numbersOf (rangeOf (g .ranges) (r .start))) ≤ r .count + (1 - r .count) * counts (g .ranges)
       go (holds e) =
           let z : r .count ≡ 0 = eqb-true (r .count) 0 e in
           let q : 1 - r .count ≡ 1 = omega arith in
-          rw length-upFrom (omega (arith, any-count (rangeOf-found (g .ranges) (r .start)), ap (λ (n : ℕ). n * total (g .ranges)) q))
+          rw length-upFrom (omega (arith, any-count (rangeOf-found (g .ranges) (r .start)), ap (λ (n : ℕ). n * counts (g .ranges)) q))
       go (fails e) =
           let d = eqb-false (r .count) 0 e in
           rw (rangeOf-start g w r (r .start) m (true-inRange (r .start) r (omega arith) (omega arith)), length-upFrom) (omega arith)
 
   held-length : (part : List Range) → ((r : Range) → r ∈ part → r ∈ g .ranges)
       → length (flatMap (λ s. numbersOf (rangeOf (g .ranges) s)) (map (λ (r : Range). r .start) part))
-      ≤ total part + empties part * total (g .ranges)
-  unfolding flatMap total empties
+      ≤ counts part + empties part * counts (g .ranges)
+  unfolding flatMap total
   held-length [] h = omega arith
   held-length (r ∷ part) h =
       rw length-append
-      (omega (arith, start-length r (h r ∈-self), held-length part (λ q m. h q (List·Memᴰ·tail m)), add-mul (1 - r .count) (empties part) (total (g .ranges))))
+      (omega (arith, start-length r (h r ∈-self), held-length part (λ q m. h q (List·Memᴰ·tail m)), add-mul (1 - r .count) (empties part) (counts (g .ranges))))
 
 module _ (p : Project) where
   -- The ranges of modules hold as many numbers as these have uninjected rows.
-  total-ranges : (s : ℕ) (modules : List ℕ) → total (rangesFrom p s modules) ≡ length (runs p modules)
+  total-ranges : (s : ℕ) (modules : List ℕ) → counts (rangesFrom p s modules) ≡ length (runs p modules)
   unfolding rangesFrom total flatMap
   total-ranges s [] = refl
   total-ranges s (m ∷ modules) = simp length-append (rw (total-ranges (s + length (uninjectedRows p m)) modules))
@@ -109,7 +102,7 @@ module _ (p : Project) where
   -- a module whose range is empty gives an injected row
   empties-injected : (s : ℕ) (modules : List ℕ) → ((m : ℕ) → m ∈ modules → isEmpty (keptRowsOf p m) ≡ false)
       → empties (rangesFrom p s modules) ≤ length (flatMap (injectedRows p) modules)
-  unfolding rangesFrom empties flatMap
+  unfolding rangesFrom total flatMap
   empties-injected s [] g = omega arith
   empties-injected s (m ∷ modules) g =
       rw length-append
@@ -153,14 +146,14 @@ module _ (p : Project) (modules : List ℕ) (g : Giving p modules) where
 
   -- the starts of empty ranges add at most this
   repeats : (c w : ℕ) → c ≤ w → length modules ≤ suc c → length (numbering p modules) ≤ c + w
-      → empties (group .ranges) * total (group .ranges) ≤ c * w
+      → empties (group .ranges) * counts (group .ranges) ≤ c * w
   unfolding groupOf
   repeats c w h k n = go (some-holds (group .ranges))
     where
-      go : (total (group .ranges) ≡ 0) ⊎ (empties (group .ranges) < length (group .ranges)) → empties (group .ranges) * total (group .ranges) ≤ c * w
+      go : (counts (group .ranges) ≡ 0) ⊎ (empties (group .ranges) < length (group .ranges)) → empties (group .ranges) * counts (group .ranges) ≤ c * w
       go (inl z) = omega (arith, ap (λ (u : ℕ). empties (group .ranges) * u) z)
       go (inr b) =
-          product-most (empties (group .ranges)) (total (group .ranges)) c w (omega (arith, length-ranges p 0 modules)) h
+          product-most (empties (group .ranges)) (counts (group .ranges)) c w (omega (arith, length-ranges p 0 modules)) h
           (omega (arith, all-rows, total-ranges p 0 modules, empties-injected p 0 modules (g .gives)))
 
   -- The first list of at most 1 + c modules with at most c + w rows. It is longest where c modules have one row each, an injected one, and the last

@@ -3,14 +3,12 @@ use Prim.Native.Nat.{ℕ, _+_, _-_, _≤_, _<_}
 use native.Mathlib.Omega.{arith}
 use native.Mathlib.Nat.{le-antisymm}
 use mathlib.Core.Path.{_≡_, refl, sym, ap, subst, _∙_}
-use mathlib.Core.Logic.{_⊎_}
 use mathlib.Core.Bool.{true, false}
-use mathlib.Core.List.{List, [], _∷_, _++_, reverse, reverseAux, reverse-reverse}
+use mathlib.Core.List.{List, [], _∷_, _++_, reverseAux, reverse-reverse}
 use lib.ListN.{length}
 use Rattle.rules.specs.Lists.{any, upFrom}
 use Rattle.rules.specs.Project.{Project, itemLimit}
-use Rattle.rules.specs.Walk.{finished}
-use Rattle.rules.specs.Modules.{ImportsModule, ReachesModule, isDone, groupsOf, groupsInOrder, runModules}
+use Rattle.rules.specs.Modules.{ImportsModule, ReachesModule, isDone, groupsOf, groupsInOrder}
 use Rattle.rules.specs.Items.{noItem, itemAt, keptRows, keepsRowOrder}
 use Rattle.rules.specs.Calls.{Answer, allowed, moduleListLimit, itemListLimit}
 use Rattle.laws.specs.Lists.{_∈_, Once, reverse-∈, ∈-reverse, once-length, ∈-upFrom, length-upFrom}
@@ -20,7 +18,7 @@ use Rattle.laws.specs.Accepted.{Accepted}
 use Rattle.laws.specs.ModuleVisit.{∈-isDone, isDone-∈}
 use Rattle.laws.specs.ModuleWalk.{Grouped, groups-made}
 use Rattle.laws.specs.Splits.{keptRows-∈, ∈-keptRows, once-keptRows}
-use Rattle.laws.specs.ModuleOrder.{InOrder, no-group, then-group, groups-in-order}
+use Rattle.laws.specs.ModuleOrder.{InOrder, then-group, groups-in-order}
 use Rattle.laws.specs.OrderCalls.{EachOnce, InTurn, in-turn, Rows, rows-in-turn, MayStandBefore, within-group, After, none-left, then-after, rows-after}
 use Rattle.laws.specs.Calls.{OrderGiven}
 

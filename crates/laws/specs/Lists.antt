@@ -4,10 +4,10 @@ use native.Mathlib.Omega.{arith}
 use mathlib.Core.Path.{_≡_, refl, sym, ap, subst, subst⁻¹, _∙_}
 use mathlib.Core.Logic.{_⊎_, inl, inr, ⊎-elim}
 use mathlib.Core.Bool.{Bool, true, false, not, _&&_, _||_}
-use mathlib.Core.List.{List, [], _∷_, _++_, map, flatMap, flatten, reverse, reverse-cons, append-nil, List·Memᴰ, List·Memᴰ·head, List·Memᴰ·tail, List·Memᴰ·cases-cons, List·Memᴰ·append-cases, Memᴰ·append-left, Memᴰ·append-right, List·Memᴰ·not-nil}
+use mathlib.Core.List.{List, [], _∷_, _++_, reverse, reverse-cons, List·Memᴰ, List·Memᴰ·head, List·Memᴰ·tail, List·Memᴰ·cases-cons, List·Memᴰ·append-cases, Memᴰ·append-left, Memᴰ·append-right, List·Memᴰ·not-nil}
 use lib.Dec.{eqb}
-use lib.ListN.{length, length-append}
-use borrow.Author.Tests.{eqb-true, eqb-false, eq-eqb, ne-eqb}
+use lib.ListN.{length}
+use borrow.Author.Tests.{eqb-true, eqb-false, eq-eqb}
 use Rattle.rules.specs.Lists.{isEmpty, consIf, keep, any, all, upFrom, elem, appendNew, different}
 
 -- `x ∈ l`: the list holds x
@@ -276,7 +276,7 @@ unfolding upFrom
 length-upFrom a zero = refl
 length-upFrom a (suc n) = ap suc (length-upFrom (suc a) n)
 
--- Counting: a list whose entries stand once is no longer than one that holds them all.
+-- Sums: of a number for each entry, and with 1 for each entry their count.
 -- a list without the first place of an entry
 unfoldable pub without : {A : Type 0} {x : A} {l : List A} → x ∈ l → List A
 without (List·Memᴰ·head {xs = l} e) = l
@@ -293,10 +293,64 @@ module _ {A : Type 0} where
   ∈-without (List·Memᴰ·head e) n d = ⊎-elim (λ h. absurd (d (h ∙ sym e))) (λ h. h) (List·Memᴰ·cases-cons n)
   ∈-without (List·Memᴰ·tail m) n d = ⊎-elim (λ h. List·Memᴰ·head h) (λ h. List·Memᴰ·tail (∈-without m h d)) (List·Memᴰ·cases-cons n)
 
+  -- the sum of a number for each entry
+  unfoldable pub total : (A → ℕ) → List A → ℕ
+  total f [] = 0
+  total f (x ∷ l) = f x + total f l
+
+  pub total-most : {f g : A → ℕ} → ((x : A) → f x ≤ g x) → (l : List A) → total f l ≤ total g l
+  unfolding total
+  total-most h [] = omega arith
+  total-most h (x ∷ l) = omega (arith, h x, total-most h l)
+
+  module _ (f : A → ℕ) where
+    pub ∈-total : {l : List A} {x : A} → x ∈ l → f x ≤ total f l
+    unfolding total
+    ∈-total (List·Memᴰ·head e) = omega (arith, ap f e)
+    ∈-total (List·Memᴰ·tail m) = omega (arith, ∈-total m)
+
+    pub total-suc : (l : List A) → total (λ x. suc (f x)) l ≡ length l + total f l
+    unfolding total
+    total-suc [] = refl
+    total-suc (x ∷ l) = omega (arith, total-suc l)
+
+    total-without : {l : List A} {x : A} (m : x ∈ l) → total f l ≡ f x + total f (without m)
+    unfolding total without
+    total-without (List·Memᴰ·head e) = omega (arith, ap f e)
+    total-without (List·Memᴰ·tail m) = omega (arith, total-without m)
+
+    -- The sum over entries that stand once is at most the sum over a list that holds them all.
+    pub once-total : {l : List A} (k : List A) → Once l → ((x : A) → x ∈ l → x ∈ k) → total f l ≤ total f k
+    unfolding total
+    once-total k none h = omega arith
+    once-total k (next {x = x} {l = l} n o) h =
+        let m : x ∈ k = h x ∈-self in
+        let r : total f l ≤ total f (without m) =
+        once-total (without m) o (λ y i. ∈-without m (h y (List·Memᴰ·tail i)) (λ e. n (subst (λ (z : A). z ∈ l) e i))) in
+        omega (arith, total-without m)
+
+    -- The entries that pass a test and those that fail it.
+    total-consIf : (b : Bool) (x : A) (s t : List A) → total f (consIf b x s) + total f (consIf (not b) x t) ≡ f x + (total f s + total f t)
+    unfolding total consIf
+    total-consIf true x s t = omega arith
+    total-consIf false x s t = omega arith
+
+    pub total-keep : (test : A → Bool) (l : List A) → total f (keep test l) + total f (keep (λ x. not (test x)) l) ≡ total f l
+    unfolding total keep
+    total-keep test [] = refl
+    total-keep test (x ∷ l) =
+        omega (arith, total-consIf (test x) x (keep test l) (keep (λ y. not (test y)) l), total-keep test l)
+
+  ones : (l : List A) → total (λ x. 1) l ≡ length l
+  unfolding total
+  ones [] = refl
+  ones (x ∷ l) = omega (arith, ones l)
+
+  -- Counting: a list whose entries stand once is no longer than one that holds them all.
   pub once-length : {l : List A} (k : List A) → Once l → ((x : A) → x ∈ l → x ∈ k) → length l ≤ length k
-  once-length k none f = omega arith
-  once-length k (next {x = x} {l = l} n o) f =
-      let m : x ∈ k = f x ∈-self in
-      let r : length l ≤ length (without m) =
-      once-length (without m) o (λ y h. ∈-without m (f y (List·Memᴰ·tail h)) (λ e. n (subst (λ (z : A). z ∈ l) e h))) in
-      omega (arith, length-without m)
+  once-length {l} k o f = omega (arith, once-total (λ x. 1) k o f, ones l, ones k)
+
+  -- An entry passes a test or fails it.
+  pub length-parts : (test : A → Bool) (l : List A) → length (keep (λ x. not (test x)) l) + length (keep test l) ≡ length l
+  length-parts test l =
+      omega (arith, total-keep (λ x. 1) test l, ones l, ones (keep test l), ones (keep (λ x. not (test x)) l))

@@ -14,15 +14,15 @@ use Rattle.rules.specs.Circles.{Tied}
 use Rattle.rules.specs.Walk.{Stop, finished, spent, full}
 use Rattle.rules.specs.Modules.{importsOf, importCount, ImportsModule, ReachesModule, ModuleState, moduleState, isDone, undoneImports, outsideImports, visitModule, moduleList, groupsOf, moduleWalk, moduleStart, runModules}
 use Rattle.rules.specs.Calls.{moduleListLimit}
-use Rattle.laws.specs.Lists.{_∈_, false≢true, Tested, holds, fails, tested, elem-true, false-elem, mem?, ∈-self, keep-∈, once-keep, once-length, length-without, upFrom-∈, ∈-upFrom, length-upFrom}
-use Rattle.laws.specs.Counting.{isEmpty-false}
+use Rattle.laws.specs.Lists.{_∈_, false≢true, Tested, holds, fails, tested, elem-true, false-elem, mem?, ∈-self, keep-∈, once-keep, once-length, length-without, upFrom-∈, ∈-upFrom, length-upFrom, total, total-most, total-suc, ∈-total}
+use Rattle.laws.specs.Counting.{isEmpty-false, empty-∈, keep-all}
 use Rattle.laws.specs.Runs.{Stopped, at-end, at-allowance, at-limit, stopped}
 use Rattle.laws.specs.Terms.{CirclesMatch, visitLimit}
 use Rattle.laws.specs.Accepted.{Accepted}
 use Rattle.laws.specs.ModuleVisit.{Visited, was-done, alone, uncircled, whole, gave-up, marked, visited, isDone-cons, done-now, done-still, undone-cons, importsOf-∈, undoneImports-∈, ∈-undoneImports, once-undoneImports, outsideImports-∈, ∈-outsideImports}
 use Rattle.laws.specs.ModuleWalk.{WalkedIn, outside-below, visit-keeps, walked-start}
 use Rattle.laws.specs.Classes.{Leads, here, on, Together, Class, leads-trans, together-self, together-sym, together-trans, import-back, class-alone, leads-below, together-tied, tied-together, circle-class, alone-class}
-use Rattle.laws.specs.Sums.{empty-∈, keep-all, total, total-most, total-suc, ∈-total, except, except-∈, ∈-except, total-except, flatMap-total, count-most, imports-counted}
+use Rattle.laws.specs.Sums.{except, except-∈, ∈-except, total-except, flatMap-total, count-most, imports-counted}
 
 -- What holds of a group and the groups made before it.
 pub record FollowsGroups (p : Project) (earlier : List (List ℕ)) (g : List ℕ) : Type 0 where

@@ -8,7 +8,7 @@ use mathlib.Core.List.{List, [], _∷_, _++_, Memᴰ·map, Memᴰ·of-map}
 use lib.Dec.{eqb}
 use borrow.Author.Tests.{eqb-true, eq-eqb}
 use Rattle.rules.specs.Lists.{isEmpty, keep, any, elem, appendNew}
-use Rattle.rules.specs.Project.{Import, Project}
+use Rattle.rules.specs.Project.{Import, Project, importRow}
 use Rattle.rules.specs.Modules.{importsOf, ModuleState, moduleState, isDone, undoneImports, circleOf, outsideImports, withGroup, visitModule}
 use Rattle.laws.specs.Lists.{_∈_, Tested, holds, fails, tested, either, or-right, not-true, true-elem, elem-true, elem-false, false-elem, keep-∈, ∈-keep, any-true, true-any, different-∈, ∈-different, Once, once-keep, once-different}
 use Rattle.laws.specs.Counting.{neither, flatMap-∈, ∈-flatMap}
@@ -80,9 +80,6 @@ unfolding isDone any
 undone-cons g groups m e = let r = neither {a = elem m g} e in (elem-false (r .0), r .1)
 
 -- The imports of a module are the imported ends of its rows, each once.
-abbrev pub importRow : ℕ → ℕ → Import
-importRow m n = record { importer = m; imported = n }
-
 pub importsOf-∈ : (p : Project) {m n : ℕ} → n ∈ importsOf p m → importRow m n ∈ p .imports
 unfolding importsOf
 importsOf-∈ p {m} {n} h =

@@ -15,11 +15,11 @@ use Rattle.rules.specs.Items.{keptRowsOf, givingModules, givenRows, keepsRowOrd
 use Rattle.rules.specs.Calls.{continueWith, orderGroups}
 use Rattle.laws.specs.Lists.{_∈_, next, false≢true, both, not-true, Tested, holds, fails, tested, elem-true, keep-∈, ∈-keep, reverse-∈, ∈-reverse, mem?, ∈-append, ∈-left, ∈-right, ∈-self, Once, none, once-append}
 use Rattle.laws.specs.Counting.{∈-isEmpty}
-use Rattle.laws.specs.Orders.{and-true, Before, before-append, before-left, before-right, before-across, before-first, before-second}
+use Rattle.laws.specs.Orders.{and-true, Before, before-append, before-right, before-across, before-first}
 use Rattle.laws.specs.PathLaws.{reaches-map}
 use Rattle.laws.specs.ModuleVisit.{∈-isDone, isDone-∈, isDone-cons, undone-cons}
 use Rattle.laws.specs.Splits.{keptRows-∈, ∈-keptRows, ∈-keptRowsOf, givenRows-∈, ∈-givenRows, once-givenRows, giving}
-use Rattle.laws.specs.GroupOrder.{MayPrecede, Sorted, sorted}
+use Rattle.laws.specs.GroupOrder.{MayPrecede, sorted}
 use Rattle.laws.specs.Terms.{Kept, moduleOf, BelongsTo, GroupNeeds}
 
 -- The groups sorted in turn, `earlier` being those before them, latest first, and the rows that they give.

@@ -1,7 +1,7 @@
 -- Further laws on tests and lists: lengths, images, positions, and which of two entries stands before the other. Assumes nothing.
 use Prim.Native.Nat.{ℕ, zero, suc, _+_, _≤_, _<_}
 use native.Mathlib.Omega.{arith}
-use mathlib.Core.Path.{_≡_, refl, sym, ap, subst}
+use mathlib.Core.Path.{_≡_, refl, sym, ap}
 use mathlib.Core.Logic.{_⊎_, inl, inr, ⊎-elim}
 use mathlib.Core.Bool.{Bool, true, false, not, _&&_, _||_}
 use mathlib.Core.List.{List, [], _∷_, _++_, map, flatMap, reverse, reverse-cons, reverse-reverse, append-nil, List·Memᴰ·head, List·Memᴰ·tail, List·Memᴰ·not-nil, Memᴰ·cast, Memᴰ·map, Memᴰ·of-map}
@@ -9,8 +9,8 @@ use lib.Dec.{eqb}
 use lib.ListN.{length, length-append, getD, List·getD-append}
 use borrow.Author.Tests.{eqb-true, eq-eqb}
 use Rattle.rules.specs.Lists.{isEmpty, consIf, keep, different, positionsFrom}
-use Rattle.laws.specs.Counting.{flatMap-∈, Below}
-use Rattle.laws.specs.Lists.{_∈_, ∈-append, ∈-left, ∈-right, ∈-self, ∈-reverse, reverse-∈, consIf-∈, ∈-consIf, keep-∈, ∈-keep, isEmpty-true, different-∈, ∈-different, once-consIf, Once, none, next, once-append}
+use Rattle.laws.specs.Counting.{flatMap-∈, Below, empty-∈}
+use Rattle.laws.specs.Lists.{_∈_, ∈-append, ∈-left, ∈-right, ∈-self, ∈-reverse, reverse-∈, consIf-∈, ∈-consIf, keep-∈, ∈-keep, different-∈, ∈-different, once-consIf, Once, none, next, once-append}
 
 -- Tests.
 pub or-left : {a : Bool} → a ≡ true → (b : Bool) → (a || b) ≡ true
@@ -25,18 +25,7 @@ and-true e f = rw e f
 -- Lengths.
 module _ {A : Type 0} where
   pub keep-empty : (test : A → Bool) (l : List A) {x : A} → isEmpty (keep test l) ≡ true → x ∈ l → test x ≡ true → ⊥
-  keep-empty test l {x} e m t = List·Memᴰ·not-nil (subst (λ (k : List A). x ∈ k) (isEmpty-true (keep test l) e) (∈-keep test m t))
-
-  -- an entry passes a test or fails it
-  pub length-parts : (test : A → Bool) (l : List A) → length (keep (λ x. not (test x)) l) + length (keep test l) ≡ length l
-  unfolding keep consIf
-  length-parts test [] = refl
-  length-parts test (x ∷ l) = go (test x) (length-parts test l)
-    where
-      go : (b : Bool) → length (keep (λ x. not (test x)) l) + length (keep test l) ≡ length l
-          → length (consIf (not b) x (keep (λ x. not (test x)) l)) + length (consIf b x (keep test l)) ≡ suc (length l)
-      go true e = omega arith
-      go false e = omega arith
+  keep-empty test l e m t = empty-∈ e (∈-keep test m t)
 
 -- Images.
 module _ {A B : Type 0} where

@@ -14,8 +14,8 @@ use Rattle.rules.specs.Project.{Item, Need, Project}
 use Rattle.rules.specs.Modules.{isDone}
 use Rattle.rules.specs.Paths.{DependsOn, ReachesItem}
 use Rattle.rules.specs.Items.{isKept, isInjected, itemAt, kindAt, noItem, keptRows, keptRowsOf, givingModules, givenRows, uninjectedRows, injectedRows, numbering, Range, rangesFrom, inRange, numbersOf, rangeOf, numberOf, isAmong, numbered, Group, groupOf, kindOf, sameRange}
-use Rattle.laws.specs.Lists.{_∈_, false≢true, both, not-true, Tested, holds, fails, tested, ∈-append, ∈-left, ∈-right, ∈-self, keep-∈, ∈-keep, Once, none, next, once-append, once-keep, once-reverse, elem-true, true-elem, upFrom-∈, ∈-upFrom, length-without}
-use Rattle.laws.specs.Orders.{not-fails, and-true, once-flatMap, getD-∈, getD-middle, getD-behind, getD-map, positions-∈, ∈-positions, once-positions, length-parts}
+use Rattle.laws.specs.Lists.{_∈_, false≢true, both, not-true, Tested, holds, fails, tested, ∈-append, ∈-left, ∈-right, ∈-self, keep-∈, ∈-keep, Once, none, next, once-append, once-keep, once-reverse, elem-true, true-elem, upFrom-∈, ∈-upFrom, length-without, length-parts}
+use Rattle.laws.specs.Orders.{not-fails, and-true, once-flatMap, getD-∈, getD-middle, getD-behind, getD-map, positions-∈, ∈-positions, once-positions}
 use Rattle.laws.specs.Counting.{isEmpty-false, flatMap-∈, ∈-flatMap, Below, below-length}
 use Rattle.laws.specs.Terms.{Kept, moduleOf}
 use Rattle.laws.specs.PathLaws.{reaches-map}

@@ -2,77 +2,20 @@
 -- most the different rows. Assumes nothing.
 use Prim.Native.Nat.{ℕ, suc, _+_, _≤_}
 use native.Mathlib.Omega.{arith}
-use mathlib.Core.Path.{_≡_, refl, sym, ap, subst, subst⁻¹, _∙_}
+use mathlib.Core.Path.{_≡_, refl, sym, ap, subst⁻¹, _∙_}
 use mathlib.Core.Logic.{⊎-elim}
-use mathlib.Core.Bool.{Bool, true, false, not}
+use mathlib.Core.Bool.{true, not}
 use mathlib.Core.List.{List, [], _∷_, map, flatMap, Memᴰ·of-map, List·Memᴰ·head, List·Memᴰ·tail, List·Memᴰ·cases-cons}
 use lib.Dec.{eqb}
 use lib.ListN.{length, length-append, length-map}
 use borrow.Author.Tests.{eqb-true}
-use Rattle.rules.specs.Lists.{isEmpty, consIf, keep, any, elem, upFrom}
-use Rattle.rules.specs.Project.{Import, Project}
+use Rattle.rules.specs.Lists.{keep, any, elem, upFrom}
+use Rattle.rules.specs.Project.{Import, Project, importRow}
 use Rattle.rules.specs.Modules.{importsOf, sameImport, countDifferent, importCount}
-use Rattle.laws.specs.Lists.{_∈_, false≢true, Tested, holds, fails, tested, both, not-true, true-elem, elem-false, false-elem, ∈-self, keep-∈, ∈-keep, any-true, Once, none, next, once-upFrom, once-length, without, ∈-without}
-use Rattle.laws.specs.Counting.{∈-isEmpty, flatMap-∈}
+use Rattle.laws.specs.Lists.{_∈_, Tested, holds, fails, tested, both, not-true, true-elem, elem-false, false-elem, keep-∈, ∈-keep, any-true, Once, once-upFrom, once-length, total, once-total, total-keep}
+use Rattle.laws.specs.Counting.{flatMap-∈}
 use Rattle.laws.specs.Orders.{once-map, once-flatMap}
-use Rattle.laws.specs.ModuleVisit.{importRow, importsOf-∈, once-imports}
-
-module _ {A : Type 0} where
-  pub empty-∈ : {l : List A} {x : A} → isEmpty l ≡ true → x ∈ l → ⊥
-  empty-∈ e m = false≢true (sym (∈-isEmpty m) ∙ e)
-
-  pub keep-all : (test : A → Bool) (l : List A) → ((x : A) → x ∈ l → test x ≡ true) → keep test l ≡ l
-  unfolding keep consIf
-  keep-all test [] f = refl
-  keep-all test (x ∷ l) f = rw (f x ∈-self, keep-all test l (λ y m. f y (List·Memᴰ·tail m)))
-
-  -- the sum of a number for each entry
-  unfoldable pub total : (A → ℕ) → List A → ℕ
-  total f [] = 0
-  total f (x ∷ l) = f x + total f l
-
-  pub total-most : {f g : A → ℕ} → ((x : A) → f x ≤ g x) → (l : List A) → total f l ≤ total g l
-  unfolding total
-  total-most h [] = omega arith
-  total-most h (x ∷ l) = omega (arith, h x, total-most h l)
-
-  module _ (f : A → ℕ) where
-    pub ∈-total : {l : List A} {x : A} → x ∈ l → f x ≤ total f l
-    unfolding total
-    ∈-total (List·Memᴰ·head e) = omega (arith, ap f e)
-    ∈-total (List·Memᴰ·tail m) = omega (arith, ∈-total m)
-
-    pub total-suc : (l : List A) → total (λ x. suc (f x)) l ≡ length l + total f l
-    unfolding total
-    total-suc [] = refl
-    total-suc (x ∷ l) = omega (arith, total-suc l)
-
-    total-without : {l : List A} {x : A} (m : x ∈ l) → total f l ≡ f x + total f (without m)
-    unfolding total without
-    total-without (List·Memᴰ·head e) = omega (arith, ap f e)
-    total-without (List·Memᴰ·tail m) = omega (arith, total-without m)
-
-    -- The sum over entries that stand once is at most the sum over a list that holds them all.
-    pub once-total : {l : List A} (k : List A) → Once l → ((x : A) → x ∈ l → x ∈ k) → total f l ≤ total f k
-    unfolding total
-    once-total k none h = omega arith
-    once-total k (next {x = x} {l = l} n o) h =
-        let m : x ∈ k = h x ∈-self in
-        let r : total f l ≤ total f (without m) =
-        once-total (without m) o (λ y i. ∈-without m (h y (List·Memᴰ·tail i)) (λ e. n (subst (λ (z : A). z ∈ l) e i))) in
-        omega (arith, total-without m)
-
-    -- The entries that pass a test and those that fail it.
-    total-consIf : (b : Bool) (x : A) (s t : List A) → total f (consIf b x s) + total f (consIf (not b) x t) ≡ f x + (total f s + total f t)
-    unfolding total consIf
-    total-consIf true x s t = omega arith
-    total-consIf false x s t = omega arith
-
-    total-keep : (test : A → Bool) (l : List A) → total f (keep test l) + total f (keep (λ x. not (test x)) l) ≡ total f l
-    unfolding total keep
-    total-keep test [] = refl
-    total-keep test (x ∷ l) =
-        omega (arith, total-consIf (test x) x (keep test l) (keep (λ y. not (test y)) l), total-keep test l)
+use Rattle.laws.specs.ModuleVisit.{importsOf-∈, once-imports}
 
 -- The entries of a list that `l` does not hold.
 unfoldable pub except : List ℕ → List ℕ → List ℕ

@@ -1,11 +1,11 @@
 -- 'What is turned down', the calls: from a project's bytes, the length of the reply and the allowance to the five numbers and the bytes written.
 -- Assumes nothing.
-use Prim.Native.Nat.{ℕ, zero, suc, _+_, _*_, _-_, _/_, _%_}
-use mathlib.Core.Bool.{Bool, true, false, cond}
+use Prim.Native.Nat.{ℕ, _+_, _*_, _-_, _/_, _%_}
+use mathlib.Core.Bool.{true, false, cond}
 use mathlib.Core.List.{List, [], _∷_, _++_, flatMap}
 use lib.Dec.{eqb, ltb}
 use lib.ListN.{length, drop}
-use Rattle.rules.specs.Project.{Project, Reading, refused, accepted, read}
+use Rattle.rules.specs.Project.{Project, refused, accepted, read}
 use Rattle.rules.specs.Walk.{Stop, finished, spent, full}
 use Rattle.rules.specs.Modules.{ModuleState, groupsOf, groupsInOrder, runModules}
 use Rattle.rules.specs.Items.{keptRows, sortGroup}

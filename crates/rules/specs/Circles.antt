@@ -1,7 +1,7 @@
 -- 'Circles of a module (chunk.rs, `cycles_for`)'. Assumes nothing.
 use Prim.Native.Nat.{ℕ, zero, suc}
 use mathlib.Core.Path.{_≡_}
-use mathlib.Core.Bool.{Bool, true, false}
+use mathlib.Core.Bool.{true, false}
 use mathlib.Core.List.{List, [], _∷_, flatten, List·Memᴰ}
 use Rattle.rules.specs.Lists.{elem, keep, different, appendNew}
 

@@ -1,5 +1,5 @@
 -- 'Item walk (stmt.rs)': a group's kept items, their split and numbering, and the walk that sorts them. Assumes nothing.
-use Prim.Native.Nat.{ℕ, zero, suc, _+_, _-_}
+use Prim.Native.Nat.{ℕ, suc, _+_}
 use mathlib.Core.Bool.{Bool, true, false, not, _&&_, _||_}
 use mathlib.Core.List.{List, [], _∷_, _++_, map, flatMap, reverse}
 use lib.Dec.{eqb, ltb, leb}

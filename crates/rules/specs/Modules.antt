@@ -1,12 +1,11 @@
 -- 'Module walk (chunk.rs)'. Assumes nothing.
-use Prim.Native.Nat.{ℕ, zero, suc}
-use mathlib.Core.Bool.{Bool, true, false, not, _&&_, _||_}
+use Prim.Native.Nat.{ℕ, suc}
+use mathlib.Core.Bool.{Bool, true, false, not, _&&_}
 use mathlib.Core.List.{List, [], _∷_, _++_, map, flatMap, reverse, List·Memᴰ}
 use lib.Dec.{eqb}
-use lib.ListN.{length}
 use Rattle.rules.specs.Lists.{isEmpty, keep, any, elem, upFrom, appendNew, different, Reaches}
 use Rattle.rules.specs.Project.{Import, Project}
-use Rattle.rules.specs.Circles.{gather, Tied}
+use Rattle.rules.specs.Circles.{gather}
 use Rattle.rules.specs.Walk.{Walk, Stop, run}
 
 -- The imports of a module: the different modules that it imports, in the order of their first rows.

@@ -2,7 +2,7 @@
 use Prim.Native.Nat.{ℕ}
 use mathlib.Core.Path.{_≡_}
 use mathlib.Core.Bool.{Bool, true, false, not, _&&_, _||_}
-use mathlib.Core.List.{List, [], _∷_, map, reverse, List·Memᴰ}
+use mathlib.Core.List.{List, [], _∷_, map, List·Memᴰ}
 use lib.Dec.{eqb}
 use Rattle.rules.specs.Lists.{keep, different, Reaches}
 use Rattle.rules.specs.Project.{Need}

@@ -1,7 +1,7 @@
 -- 'Project bytes' and numbers 1 to 9 of 'What is turned down': what the bytes of a project say. Bytes are a list of numbers, positions
 -- and lengths natural numbers, so that no sum wraps. Assumes nothing.
 use Prim.Native.Nat.{ℕ, zero, suc, _+_, _*_, _%_}
-use mathlib.Core.Bool.{Bool, true, false, cond, not, _&&_, _||_}
+use mathlib.Core.Bool.{Bool, true, false, cond, not, _||_}
 use mathlib.Core.List.{List, [], _∷_, tail}
 use lib.Dec.{eqb, ltb, leb}
 use lib.ListN.{length, getD, take, drop}

@@ -2,7 +2,6 @@
 -- All are proved by computation. Assumes nothing.
 use Prim.Native.Nat.{ℕ, _+_}
 use mathlib.Core.Path.{_≡_, refl}
-use mathlib.Core.Bool.{Bool, true, false}
 use mathlib.Core.List.{List, [], _∷_, _++_, flatMap, flatten}
 use lib.ListN.{length, take}
 use Rattle.rules.specs.Lists.{isEmpty, consIf, keep, any, all, positionsFrom, upFrom, elem, appendNew, different}
