@@ -8,7 +8,7 @@ use lib.Dec.{leb}
 use lib.ListN.{length, length-take}
 use borrow.Author.Tests.{eqb-false, ltb-false, leb-false}
 use Rattle.rules.specs.Lists.{any}
-use Rattle.rules.specs.Project.{Item, Import, Need, Project, Reading, refused, accepted, moduleLimit, itemLimit, importLimit, needLimit, needBytes, byteAt, lengthOf, section, itemRow, importRow, pairRows, needRows, joinFirst, listsFrom, circleLists, stub, foreign, misplaced, ragged, outsize, badItem, badImport, badCircles, badNeed, projectOf, read}
+use Rattle.rules.specs.Project.{Item, Import, Need, Project, Reading, refused, accepted, moduleLimit, itemLimit, importLimit, circleBytesLimit, needLimit, needBytes, byteAt, lengthOf, section, itemRow, importRow, pairRows, needRows, joinFirst, listsFrom, circleLists, stub, foreign, misplaced, ragged, outsize, badItem, badImport, badCircles, badNeed, projectOf, read}
 use Rattle.laws.specs.Lists.{_∈_, ∈-self, false≢true}
 use Rattle.laws.specs.Counting.{neither, none-passes, EachBelow, below-nil, below-cons, each-cons, tail-∈}
 
@@ -152,15 +152,16 @@ read-passes bytes p e =
     )
 
 -- Test 5, taken apart.
-record Sizes (bytes : List ℕ) : Type 0 where
-  modules-least : 1 ≤ byteAt bytes 1
-  modules-most : byteAt bytes 1 ≤ moduleLimit
-  entry-below : byteAt bytes 2 < byteAt bytes 1
-  items-most : lengthOf bytes 0 ≤ 2 * itemLimit
-  imports-most : lengthOf bytes 1 ≤ 2 * importLimit
-  needs-most : lengthOf bytes 3 ≤ needBytes * needLimit
+pub record Sizes (bytes : List ℕ) : Type 0 where
+  pub modules-least : 1 ≤ byteAt bytes 1
+  pub modules-most : byteAt bytes 1 ≤ moduleLimit
+  pub entry-below : byteAt bytes 2 < byteAt bytes 1
+  pub items-most : lengthOf bytes 0 ≤ 2 * itemLimit
+  pub imports-most : lengthOf bytes 1 ≤ 2 * importLimit
+  pub circles-most : lengthOf bytes 2 ≤ circleBytesLimit
+  pub needs-most : lengthOf bytes 3 ≤ needBytes * needLimit
 
-sizes : (bytes : List ℕ) → outsize bytes ≡ false → Sizes bytes
+pub sizes : (bytes : List ℕ) → outsize bytes ≡ false → Sizes bytes
 unfolding outsize
 sizes bytes e =
     let needs = neither e in
@@ -176,6 +177,7 @@ sizes bytes e =
       entry-below = leb-false (byteAt bytes 1) (byteAt bytes 2) (entry .1);
       items-most = ltb-false (2 * itemLimit) (lengthOf bytes 0) (items .1);
       imports-most = ltb-false (2 * importLimit) (lengthOf bytes 1) (imports .1);
+      circles-most = ltb-false circleBytesLimit (lengthOf bytes 2) (circles .1);
       needs-most = ltb-false (needBytes * needLimit) (lengthOf bytes 3) (needs .1);
     }
 

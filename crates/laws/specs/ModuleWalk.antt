@@ -152,7 +152,7 @@ pub record Grouped (p : Project) (groups : List (List ℕ)) : Type 0 where
   pub bytes : length (groupBytes (reverse groups)) ≤ groupsBytes p
 
 -- Each group takes a count byte and at most M members.
-bytes-most : (p : Project) {groups : List (List ℕ)} → Made (p .modules) groups → length (groupBytes (reverse groups)) ≤ groupsBytes p
+pub bytes-most : (p : Project) {groups : List (List ℕ)} → Made (p .modules) groups → length (groupBytes (reverse groups)) ≤ groupsBytes p
 unfolding groupBytes groupsBytes
 bytes-most p {groups} r =
     let most : length (reverse groups) ≤ p .modules = rw length-reverse (made-count r) in
