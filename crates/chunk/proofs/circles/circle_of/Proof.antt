@@ -1,0 +1,57 @@
+-- `chunk::circles::circle_of` meets its contract: what following m from nothing gathers, reversed. Assumes nothing.
+use native.Mathlib.Omega.{arith}
+use borrow.Author.Needs.{needs}
+use mathlib.Core.Path.{sym}
+use lib.Seq.{length-take-le}
+use Rattle.laws.specs.Counting.{below-length}
+use Rattle.chunk.specs.CircleLaws.{module-ready, circle-gathered}
+use Rattle.chunk.proofs.circles.circle_of.Statement.{statement}
+use Rattle.chunk.proofs.circles.circle_of.Tie as tie
+
+new-requires : tie.Need-new-requires
+new-requires c κs = search needs
+
+slice-aggregate-follow-module : tie.Need-slice-aggregate-follow-module
+slice-aggregate-follow-module c = search needs
+
+follow-module-requires : tie.Need-follow-module-requires
+follow-module-requires c κs =
+    let b = c .before .before .before .before in
+    module-ready (b .args .section .now) (b .args .m) (b .pre) (c .before .new .ensures) (omega arith)
+
+array-share-prefix-array : tie.Need-array-share-prefix-array
+array-share-prefix-array c = search needs
+
+slice-aggregate-copy-reversed : tie.Need-slice-aggregate-copy-reversed
+slice-aggregate-copy-reversed c = sym (length-take-le _ _ (c .before .before .follow-module .ensures .grows .gathers .fits))
+
+copy-reversed-requires : tie.Need-copy-reversed-requires
+copy-reversed-requires c κs =
+    let f = c .before .before .before in
+    let g = f .follow-module .ensures .grows .gathers in
+    let most = below-length (g .once) (g .below) in
+    omega (arith, f .before .before .before .before .before .pre .room)
+
+same-length : tie.Need-same-length
+same-length c = search needs
+
+returns : tie.Need-returns
+returns c =
+    let r = c .before .before .before in
+    let f = r .before .before .before .before in
+    let n = f .before .before in
+    let b = n .before .before .before in
+    rw (r .copy-reversed .ensures) (circle-gathered (b .args .section .now) (b .args .m) (b .pre) (n .new .ensures) (f .follow-module .ensures))
+
+pub circle-of-spec : {M : Type 1} → statement M
+circle-of-spec =
+    tie.close
+    (tie.spec
+    new-requires
+    slice-aggregate-follow-module
+    follow-module-requires
+    array-share-prefix-array
+    slice-aggregate-copy-reversed
+    copy-reversed-requires
+    same-length
+    returns)

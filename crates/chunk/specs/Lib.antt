@@ -1,0 +1,12 @@
+pub mod Circles
+pub mod CircleLaws
+pub mod Imports
+pub mod ImportLaws
+pub mod LayoutLaws
+pub mod AppendLaws
+pub mod Walks
+pub mod WalkLaws
+pub mod RunLaws
+pub mod StartLaws
+pub mod VisitLaws
+pub mod CameLaws

@@ -1,0 +1,9 @@
+pub mod Arrays
+pub mod ArrayLaws
+pub mod Bits
+pub mod BitLaws
+pub mod Stacks
+pub mod StackLaws
+pub mod Pairs
+pub mod ChainLaws
+pub mod PairLaws
