@@ -10,6 +10,7 @@ ghost use Rattle.rules.specs.Project.{moduleLimit, badCircles};
 ghost use Rattle.laws.specs.Counting.{Below};
 ghost use Rattle.chunk.specs.Circles.{nothing, Gathers, Appended, Listed, ModuleReady, MembersReady, FollowsModule, FollowsMembers, CircleReady, CircleGathered};
 use lists::bits;
+use project::ModuleId;
 
 // The modules gathered in the first bytes of an array: as a set, and how many.
 pub struct Gathered {
@@ -148,16 +149,16 @@ fn copy_reversed(list: &[u8], array: &mut [u8])
 }
 
 // Gathers the circle of m, reversed.
-pub fn circle_of(section: &[u8], m: u8, circle: &mut [u8]) -> Gathered
-    requires { ⌜ CircleReady (now section) m (now circle) ⌝ }
-    ensures { λ r. ⌜ CircleGathered (now (section .entry)) m (now (circle .entry)) (now (circle .exit)) r ⌝ }
+pub fn circle_of(section: &[u8], m: ModuleId, circle: &mut [u8]) -> Gathered
+    requires { ⌜ CircleReady (now section) (m .0) (now circle) ⌝ }
+    ensures { λ r. ⌜ CircleGathered (now (section .entry)) (m .0) (now (circle .entry)) (now (circle .exit)) r ⌝ }
 {
     let mut array = [0u8; Gathered::ROOM];
     let start = Following {
         gathered: Gathered::new(),
         noted: 0,
     };
-    let s = follow_module(section, m, &mut array, start);
+    let s = follow_module(section, m.0, &mut array, start);
     let n = s.gathered.count;
     copy_reversed(&array[..n], circle);
     s.gathered

@@ -3,6 +3,7 @@ use super::circles;
 use super::circles::Gathered;
 use super::imports;
 use lists::bits;
+use project::ModuleId;
 ghost use Prim.Native.Nat.{_+_, _*_, _-_, _≤_, _<_};
 ghost use mathlib.Core.Path.{_≡_};
 ghost use lib.ListN.{length};
@@ -42,9 +43,9 @@ impl ModuleWalk {
     pub const LIST: usize = 1024;
 
     // The state before the first visit: the list is the entry, then 0 to modules - 1.
-    pub fn new(list: &mut [u8], modules: u8, entry: u8) -> Self
+    pub fn new(list: &mut [u8], modules: u8, entry: ModuleId) -> Self
         requires { ⌜ modules < length (now list) ⌝ }
-        ensures { λ r. ⌜ Started modules entry (now (list .exit)) r ⌝ }
+        ensures { λ r. ⌜ Started modules (entry .0) (now (list .exit)) r ⌝ }
     {
         let n = modules as usize;
         let mut i = 0;
@@ -52,7 +53,7 @@ impl ModuleWalk {
             list[i] = modules - 1 - i as u8;
             i += 1;
         }
-        list[n] = entry;
+        list[n] = entry.0;
         Self {
             end: n + 1,
             done: 0,
@@ -202,23 +203,23 @@ fn visit_leaving(
     list: &mut [u8],
     groups: &mut [u8],
     w: ModuleWalk,
-    m: u8,
+    m: ModuleId,
     circle: &mut [u8],
     g: Gathered,
     open: usize,
 ) -> Outcome
-    requires { ⌜ ((b : Behind) × Leaving b (now to) (now heads) (now next) (now list) (now groups) w m (now circle) g «open») ⌝ }
-    ensures { λ r. ⌜ ((b : Behind) → Leaving b (now (to .entry)) (now (heads .entry)) (now (next .entry)) (now (list .entry)) (now (groups .entry)) w m (now (circle .entry)) g «open» → Came (b .project) (stateAt m b) (now (list .exit)) (now (groups .exit)) r) ⌝ }
+    requires { ⌜ ((b : Behind) × Leaving b (now to) (now heads) (now next) (now list) (now groups) w (m .0) (now circle) g «open») ⌝ }
+    ensures { λ r. ⌜ ((b : Behind) → Leaving b (now (to .entry)) (now (heads .entry)) (now (next .entry)) (now (list .entry)) (now (groups .entry)) w (m .0) (now (circle .entry)) g «open» → Came (b .project) (stateAt (m .0) b) (now (list .exit)) (now (groups .exit)) r) ⌝ }
 {
     let done = w.done;
     let marks = w.marks;
-    if bits::has(marks, m) {
+    if bits::has(marks, m.0) {
         let r = append_all(to, heads, next, done, circle, g);
         let n = r.count;
         return Outcome::Placed(grouped(w, groups, &circle[..n], r.have));
     }
     let n = g.count;
-    let marked = bits::with(marks, m);
+    let marked = bits::with(marks, m.0);
     expanded(to, heads, next, &circle[..n], g.have, open, list, w, marked)
 }
 
@@ -230,12 +231,12 @@ fn visit_circle(
     list: &mut [u8],
     groups: &mut [u8],
     w: ModuleWalk,
-    m: u8,
+    m: ModuleId,
     circle: &mut [u8],
     g: Gathered,
 ) -> Outcome
-    requires { ⌜ ((b : Behind) × Circled b (now to) (now heads) (now next) (now list) (now groups) w m (now circle) g) ⌝ }
-    ensures { λ r. ⌜ ((b : Behind) → Circled b (now (to .entry)) (now (heads .entry)) (now (next .entry)) (now (list .entry)) (now (groups .entry)) w m (now (circle .entry)) g → Came (b .project) (stateAt m b) (now (list .exit)) (now (groups .exit)) r) ⌝ }
+    requires { ⌜ ((b : Behind) × Circled b (now to) (now heads) (now next) (now list) (now groups) w (m .0) (now circle) g) ⌝ }
+    ensures { λ r. ⌜ ((b : Behind) → Circled b (now (to .entry)) (now (heads .entry)) (now (next .entry)) (now (list .entry)) (now (groups .entry)) w (m .0) (now (circle .entry)) g → Came (b .project) (stateAt (m .0) b) (now (list .exit)) (now (groups .exit)) r) ⌝ }
 {
     let n = g.count;
     let set = g.have;
@@ -256,16 +257,16 @@ fn visit_importing(
     list: &mut [u8],
     groups: &mut [u8],
     w: ModuleWalk,
-    m: u8,
+    m: ModuleId,
     open: usize,
 ) -> Outcome
-    requires { ⌜ ((b : Behind) × Importing b (now section) (now to) (now heads) (now next) (now list) (now groups) w m «open») ⌝ }
-    ensures { λ r. ⌜ ((b : Behind) → Importing b (now (section .entry)) (now (to .entry)) (now (heads .entry)) (now (next .entry)) (now (list .entry)) (now (groups .entry)) w m «open» → Came (b .project) (stateAt m b) (now (list .exit)) (now (groups .exit)) r) ⌝ }
+    requires { ⌜ ((b : Behind) × Importing b (now section) (now to) (now heads) (now next) (now list) (now groups) w (m .0) «open») ⌝ }
+    ensures { λ r. ⌜ ((b : Behind) → Importing b (now (section .entry)) (now (to .entry)) (now (heads .entry)) (now (next .entry)) (now (list .entry)) (now (groups .entry)) w (m .0) «open» → Came (b .project) (stateAt (m .0) b) (now (list .exit)) (now (groups .exit)) r) ⌝ }
 {
     let mut circle = [0u8; 64];
     let g = circles::circle_of(section, m, &mut circle);
     if g.count == 0 {
-        let alone = [m];
+        let alone = [m.0];
         let marks = w.marks;
         return expanded(to, heads, next, &alone, 0, open, list, w, marks);
     }
@@ -281,16 +282,16 @@ fn visit_undone(
     list: &mut [u8],
     groups: &mut [u8],
     w: ModuleWalk,
-    m: u8,
+    m: ModuleId,
 ) -> Outcome
-    requires { ⌜ ((b : Behind) × Undone b (now section) (now to) (now heads) (now next) (now list) (now groups) w m) ⌝ }
-    ensures { λ r. ⌜ ((b : Behind) → Undone b (now (section .entry)) (now (to .entry)) (now (heads .entry)) (now (next .entry)) (now (list .entry)) (now (groups .entry)) w m → Came (b .project) (stateAt m b) (now (list .exit)) (now (groups .exit)) r) ⌝ }
+    requires { ⌜ ((b : Behind) × Undone b (now section) (now to) (now heads) (now next) (now list) (now groups) w (m .0)) ⌝ }
+    ensures { λ r. ⌜ ((b : Behind) → Undone b (now (section .entry)) (now (to .entry)) (now (heads .entry)) (now (next .entry)) (now (list .entry)) (now (groups .entry)) w (m .0) → Came (b .project) (stateAt (m .0) b) (now (list .exit)) (now (groups .exit)) r) ⌝ }
 {
-    let alone = [m];
+    let alone = [m.0];
     let done = w.done;
     let open = imports::count_all(to, heads, next, &alone, done, 0);
     if open == 0 {
-        let set = bits::with(0, m);
+        let set = bits::with(0, m.0);
         return Outcome::Placed(grouped(w, groups, &alone, set));
     }
     visit_importing(section, to, heads, next, list, groups, w, m, open)
@@ -318,7 +319,7 @@ pub fn visit(
     if bits::has(done, m) {
         return Outcome::WentOn(passed(w));
     }
-    visit_undone(section, to, heads, next, list, groups, w, m)
+    visit_undone(section, to, heads, next, list, groups, w, ModuleId(m))
 }
 
 // Visits until the list is empty, the allowance is spent or the list is full.
@@ -364,12 +365,12 @@ pub fn toposort_real_module_ids(
     imports: &[u8],
     section: &[u8],
     modules: u8,
-    entry: u8,
+    entry: ModuleId,
     groups: &mut [u8],
     allowance: u32,
 ) -> Ending
-    requires { ⌜ ((p : Project) × Groupable p (now imports) (now section) modules entry (now groups)) ⌝ }
-    ensures { λ r. ⌜ ((p : Project) → Groupable p (now (imports .entry)) (now (section .entry)) modules entry (now (groups .entry))
+    requires { ⌜ ((p : Project) × Groupable p (now imports) (now section) modules (entry .0) (now groups)) ⌝ }
+    ensures { λ r. ⌜ ((p : Project) → Groupable p (now (imports .entry)) (now (section .entry)) modules (entry .0) (now (groups .entry))
         → Ended (runModules p moduleListLimit allowance) (Holds (now (groups .exit))) r) ⌝ }
 {
     let mut to = [0u16; 512];

@@ -17,7 +17,7 @@ slice-aggregate-follow-module c = search needs
 follow-module-requires : tie.Need-follow-module-requires
 follow-module-requires c κs =
     let b = c .before .before .before .before in
-    module-ready (b .args .section .now) (b .args .m) (b .pre) (c .before .new .ensures) (omega arith)
+    module-ready (b .args .section .now) (b .args .m .0) (b .pre) (c .before .new .ensures) (omega arith)
 
 array-share-prefix-array : tie.Need-array-share-prefix-array
 array-share-prefix-array c = search needs
@@ -41,7 +41,7 @@ returns c =
     let f = r .before .before .before .before in
     let n = f .before .before in
     let b = n .before .before .before in
-    rw (r .copy-reversed .ensures) (circle-gathered (b .args .section .now) (b .args .m) (b .pre) (n .new .ensures) (f .follow-module .ensures))
+    rw (r .copy-reversed .ensures) (circle-gathered (b .args .section .now) (b .args .m .0) (b .pre) (n .new .ensures) (f .follow-module .ensures))
 
 pub circle-of-spec : {M : Type 1} → statement M
 circle-of-spec =

@@ -70,7 +70,7 @@ returns-2 c b l =
     let a = t .before .before .before .before .before .before .before .before .args in
     let h = l .circled .undone .walking in
     came-expanded h (is-marked l (sym (t .before .has .ensures) ∙ t .if1 .left)) (x .expanded .ensures)
-    (marks-more (n .with .result) (a .w .marks) (a .m) (b .marks) (marks-shown h) (n .with .ensures))
+    (marks-more (n .with .result) (a .w .marks) (a .m .0) (b .marks) (marks-shown h) (n .with .ensures))
 
 pub visit-leaving-spec : {M : Type 1} → statement M
 visit-leaving-spec =

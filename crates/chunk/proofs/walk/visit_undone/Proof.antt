@@ -32,7 +32,7 @@ returns c b u =
     let n = g .before .before .before in
     let t = n .before in
     came-grouped (u .walking) (is-alone u (t .before .count-all .ensures) (t .if1 .taken)) (g .grouped .ensures)
-    (marks-more (n .with .result) 0 (t .before .before .before .before .before .before .before .before .before .args .m) [] marks-none (n .with .ensures))
+    (marks-more (n .with .result) 0 (t .before .before .before .before .before .before .before .before .before .args .m .0) [] marks-none (n .with .ensures))
 
 visit-importing-requires : tie.Need-visit-importing-requires
 visit-importing-requires c κs =

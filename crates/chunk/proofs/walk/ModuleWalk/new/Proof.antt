@@ -57,7 +57,7 @@ returns c =
     let n = c .before .before .args .modules in
     let full : l .i ≡ n = omega arith in
     record {
-      entries = started (l .list) n (c .before .before .args .entry) (omega arith) (rw full at (l .inv .2));
+      entries = started (l .list) n (c .before .before .args .entry .0) (omega arith) (rw full at (l .inv .2));
       end = refl;
       numbers = refl;
     }
