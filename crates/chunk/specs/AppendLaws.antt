@@ -6,6 +6,8 @@ use mathlib.Core.List.{List, [], _∷_, _++_, append-assoc, append-nil}
 use lib.ListN.{length, getD, take, length-append}
 use lib.Seq.{length-take-le, take-append-le, take-take, getD-take}
 use Rattle.rules.specs.Lists.{elem, appendNew}
+use Rattle.rules.specs.Project.{moduleLimit}
+use Rattle.laws.specs.Orders.{getD-∈}
 use Rattle.laws.specs.Lists.{Tested, holds, fails, tested, appendNew-old, appendNew-new}
 use Rattle.chunk.specs.declared.circles.Gathered.{Gathered}
 use Rattle.chunk.specs.Circles.{gatheredOn, Gathers, Appended}
@@ -56,3 +58,9 @@ member-kept {before} {after} {g} {r} {list} k p i h =
     sym (take-take (g .count) (r .count) after (p .grows .more)) ∙ ap (take (g .count)) (p .front)
     ∙ take-appendNew (g .count) (gatheredOn before g) list (omega arith) in
     sym (getD-take (g .count) after i 0 h) ∙ ap (λ (l : List ℕ). getD l i 0) front ∙ getD-take (g .count) (gatheredOn before g) i 0 h
+
+pub kept-below : {before after : List ℕ} {g r : Gathered} {list : List ℕ} → Gathers before g → Appended before after g r list → (i : ℕ) → i < g .count
+    → getD after i 0 < moduleLimit
+kept-below {before} {g = g} k p i h =
+    let size = length-take-le (g .count) before (k .fits) in
+    omega (arith, member-kept k p i h, k .below _ (getD-∈ (gatheredOn before g) i 0 (omega arith)))

@@ -31,19 +31,6 @@ use Rattle.chunk.specs.WalkLaws.{empty-none, empty-some}
 use Rattle.chunk.specs.RunLaws.{entry-count}
 use Rattle.chunk.specs.VisitLaws.{more-bytes, front-shown, visit-done, visit-alone, visit-uncircled, visit-whole, visit-gave-up, visit-marked, shows-passed, shows-grouped, shows-expanded}
 
--- What stands behind the front of the list.
-abbrev pub behind : Project → List ℕ → ModuleWalk → ModuleState → Behind
-behind p list w s = record { project = p; rest = stack list (w .end - 1); marks = marksOf s; made = groupsOf s }
-
-module _ {p : Project} {section to heads next list groups : List ℕ} {w : ModuleWalk} {s : ModuleState}
-    (h : Walking p section to heads next list groups w s) (some : 0 < w .end) where
-  pub at-front : Walking p section to heads next list groups w (stateAt (getD list (w .end - 1) 0) (behind p list w s))
-  at-front = subst (Walking p section to heads next list groups w) (front-shown (h .shows) some) h
-
-  pub from-front : {after groups′ : List ℕ} {o : Outcome} → Came p (stateAt (getD list (w .end - 1) 0) (behind p list w s)) after groups′ o
-      → Came p s after groups′ o
-  from-front {after} {groups′} {o} c = subst (λ (t : ModuleState). Came p t after groups′ o) (sym (front-shown (h .shows) some)) c
-
 -- A visit of a front module.
 module _ {b : Behind} {section to heads next list groups : List ℕ} {w : ModuleWalk} {m : ℕ}
     (h : Walking (b .project) section to heads next list groups w (stateAt m b)) where
@@ -70,7 +57,7 @@ module _ {b : Behind} {section to heads next list groups : List ℕ} {w : Module
   unfolding groupsOf
   came-on {r = r} e f = went-on {w = r} (ap groupsOf e) (rw e f)
 
-  pub came-done : isDone (b .made) m ≡ true
+  came-done : isDone (b .made) m ≡ true
       → Came (b .project) (stateAt m b) list groups
       (WentOn (record { end = w .end - 1; done = w .done; marks = w .marks; groups = w .groups; used = w .used }))
   came-done d = came-on (visit-done (b .project) m (b .rest) (b .marks) (b .made) d) (shows-passed (h .shows) (omega (arith, front-count)))
@@ -149,6 +136,28 @@ marks-more new old m l h f j = f j ∙ ap (λ (x : Bool). eqb j m || x) (h j)
 pub marks-none : Marks 0 []
 unfolding elem
 marks-none = bit-zero
+
+-- Step 1. What stands behind the front of the list.
+abbrev pub behind : Project → List ℕ → ModuleWalk → ModuleState → Behind
+behind p list w s = record { project = p; rest = stack list (w .end - 1); marks = marksOf s; made = groupsOf s }
+
+module _ {p : Project} {section to heads next list groups : List ℕ} {w : ModuleWalk} {s : ModuleState}
+    (h : Walking p section to heads next list groups w s) (some : 0 < w .end) where
+  abbrev front : ℕ
+  front = getD list (w .end - 1) 0
+
+  pub at-front : Walking p section to heads next list groups w (stateAt front (behind p list w s))
+  at-front = subst (Walking p section to heads next list groups w) (front-shown (h .shows) some) h
+
+  pub from-front : {after groups′ : List ℕ} {o : Outcome} → Came p (stateAt front (behind p list w s)) after groups′ o → Came p s after groups′ o
+  from-front {after} {groups′} {o} c = subst (λ (t : ModuleState). Came p t after groups′ o) (sym (front-shown (h .shows) some)) c
+
+  pub is-passed : bit (w .done) front ≡ true
+      → Came p s list groups (WentOn (record { end = w .end - 1; done = w .done; marks = w .marks; groups = w .groups; used = w .used }))
+  is-passed d = from-front (came-done at-front (sym (h .shows .done front) ∙ d))
+
+  pub is-undone : bit (w .done) front ≡ false → Undone (behind p list w s) section to heads next list groups w front
+  is-undone d = record { walking = at-front; undone = sym (h .shows .done front) ∙ d }
 
 -- Step 2.
 module _ {b : Behind} {section to heads next list groups : List ℕ} {w : ModuleWalk} {m : ℕ} (u : Undone b section to heads next list groups w m)

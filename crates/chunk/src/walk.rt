@@ -196,6 +196,7 @@ fn append_all(
 }
 
 // Step 4, for a circle with undone imports outside it: they go in front, and m is marked; where it is marked already, they join the circle.
+// What the array of the circle holds afterwards is left free.
 fn visit_leaving(
     to: &[u16],
     heads: &[u16],
@@ -209,7 +210,9 @@ fn visit_leaving(
     open: usize,
 ) -> Outcome
     requires { ⌜ ((b : Behind) × Leaving b (now to) (now heads) (now next) (now list) (now groups) w (m .0) (now circle) g «open») ⌝ }
-    ensures { λ r. ⌜ ((b : Behind) → Leaving b (now (to .entry)) (now (heads .entry)) (now (next .entry)) (now (list .entry)) (now (groups .entry)) w (m .0) (now (circle .entry)) g «open» → Came (b .project) (stateAt (m .0) b) (now (list .exit)) (now (groups .exit)) r) ⌝ }
+    ensures { λ r. ⌜ ((b : Behind)
+        → Leaving b (now (to .entry)) (now (heads .entry)) (now (next .entry)) (now (list .entry)) (now (groups .entry)) w (m .0) (now (circle .entry)) g «open»
+        → Came (b .project) (stateAt (m .0) b) (now (list .exit)) (now (groups .exit)) r) ⌝ }
 {
     let done = w.done;
     let marks = w.marks;
@@ -223,7 +226,7 @@ fn visit_leaving(
     expanded(to, heads, next, &circle[..n], g.have, open, list, w, marked)
 }
 
-// Step 4, for the circle of m: without undone imports outside it is a group.
+// Step 4, for the circle of m: without undone imports outside it is a group. What its array holds afterwards is left free.
 fn visit_circle(
     to: &[u16],
     heads: &[u16],
@@ -236,7 +239,9 @@ fn visit_circle(
     g: Gathered,
 ) -> Outcome
     requires { ⌜ ((b : Behind) × Circled b (now to) (now heads) (now next) (now list) (now groups) w (m .0) (now circle) g) ⌝ }
-    ensures { λ r. ⌜ ((b : Behind) → Circled b (now (to .entry)) (now (heads .entry)) (now (next .entry)) (now (list .entry)) (now (groups .entry)) w (m .0) (now (circle .entry)) g → Came (b .project) (stateAt (m .0) b) (now (list .exit)) (now (groups .exit)) r) ⌝ }
+    ensures { λ r. ⌜ ((b : Behind)
+        → Circled b (now (to .entry)) (now (heads .entry)) (now (next .entry)) (now (list .entry)) (now (groups .entry)) w (m .0) (now (circle .entry)) g
+        → Came (b .project) (stateAt (m .0) b) (now (list .exit)) (now (groups .exit)) r) ⌝ }
 {
     let n = g.count;
     let set = g.have;
@@ -261,7 +266,9 @@ fn visit_importing(
     open: usize,
 ) -> Outcome
     requires { ⌜ ((b : Behind) × Importing b (now section) (now to) (now heads) (now next) (now list) (now groups) w (m .0) «open») ⌝ }
-    ensures { λ r. ⌜ ((b : Behind) → Importing b (now (section .entry)) (now (to .entry)) (now (heads .entry)) (now (next .entry)) (now (list .entry)) (now (groups .entry)) w (m .0) «open» → Came (b .project) (stateAt (m .0) b) (now (list .exit)) (now (groups .exit)) r) ⌝ }
+    ensures { λ r. ⌜ ((b : Behind)
+        → Importing b (now (section .entry)) (now (to .entry)) (now (heads .entry)) (now (next .entry)) (now (list .entry)) (now (groups .entry)) w (m .0) «open»
+        → Came (b .project) (stateAt (m .0) b) (now (list .exit)) (now (groups .exit)) r) ⌝ }
 {
     let mut circle = [0u8; 64];
     let g = circles::circle_of(section, m, &mut circle);
@@ -285,7 +292,9 @@ fn visit_undone(
     m: ModuleId,
 ) -> Outcome
     requires { ⌜ ((b : Behind) × Undone b (now section) (now to) (now heads) (now next) (now list) (now groups) w (m .0)) ⌝ }
-    ensures { λ r. ⌜ ((b : Behind) → Undone b (now (section .entry)) (now (to .entry)) (now (heads .entry)) (now (next .entry)) (now (list .entry)) (now (groups .entry)) w (m .0) → Came (b .project) (stateAt (m .0) b) (now (list .exit)) (now (groups .exit)) r) ⌝ }
+    ensures { λ r. ⌜ ((b : Behind)
+        → Undone b (now (section .entry)) (now (to .entry)) (now (heads .entry)) (now (next .entry)) (now (list .entry)) (now (groups .entry)) w (m .0)
+        → Came (b .project) (stateAt (m .0) b) (now (list .exit)) (now (groups .exit)) r) ⌝ }
 {
     let alone = [m.0];
     let done = w.done;
@@ -297,7 +306,7 @@ fn visit_undone(
     visit_importing(section, to, heads, next, list, groups, w, m, open)
 }
 
-// One visit. `list` holds w.end entries, at least one.
+// One visit. `list` holds w.end entries, at least one. Step 1: a module that is done is passed over.
 pub fn visit(
     section: &[u8],
     to: &[u16],
@@ -322,7 +331,7 @@ pub fn visit(
     visit_undone(section, to, heads, next, list, groups, w, ModuleId(m))
 }
 
-// Visits until the list is empty, the allowance is spent or the list is full.
+// Visits until the list is empty, the allowance is spent or the list is full, tested in this order; a visit that fills the list counts.
 pub fn run(
     section: &[u8],
     to: &[u16],
@@ -341,7 +350,8 @@ pub fn run(
     let mut w = start;
     let mut made: u32 = 0;
     loop {
-        if w.end == 0 {
+        let end = w.end;
+        if end == 0 {
             return Ending::Finished(w, made);
         }
         if made == allowance {
@@ -360,7 +370,8 @@ pub fn run(
     }
 }
 
-// The groups of a project, in the order in which they are made: the modules 0 to modules - 1, their imports and circles as sections of its bytes.
+// The groups of a project's modules, of which there are `modules`, from its imports and circles: sections of its bytes. Where the groups are not all
+// made, what `groups` holds is left free.
 pub fn toposort_real_module_ids(
     imports: &[u8],
     section: &[u8],

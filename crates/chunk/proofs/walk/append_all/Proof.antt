@@ -7,8 +7,7 @@ use lib.Seq.{length-take-le}
 use Rattle.chunk.specs.Circles.{gatheredOn}
 use Rattle.chunk.specs.Imports.{openOf, openImports}
 use Rattle.chunk.specs.ImportLaws.{members-step, members-end}
-use Rattle.chunk.specs.AppendLaws.{Appending, appending-start, appending-rest, appending-more, appending-end, member-kept}
-use Rattle.laws.specs.Orders.{getD-∈}
+use Rattle.chunk.specs.AppendLaws.{Appending, appending-start, appending-rest, appending-more, appending-end, member-kept, kept-below}
 use Rattle.chunk.proofs.walk.append_all.Statement.{statement}
 use Rattle.chunk.proofs.walk.append_all.Tie as tie
 
@@ -36,12 +35,8 @@ append-open-requires : tie.Need-append-open-requires Inv-loop μ-loop
 append-open-requires c κs =
     let l = c .before .before .before in
     let s = l .before .before .before .before .before in
-    let a = s .args in
-    let t = c .before .before .loop-test .taken in
-    let size = length-take-le (a .g .count) (a .circle .now) (s .pre .1 .fits) in
-    let kept = member-kept (s .pre .1) (l .loop .inv .1 .appended) (l .loop .i) t in
-    let below = s .pre .1 .below _ (getD-∈ (gatheredOn (a .circle .now) (a .g)) (l .loop .i) 0 (omega arith)) in
-    (s .pre .0, (omega arith, l .loop .inv .1 .appended .grows .gathers))
+    let a = l .loop .inv .1 .appended in
+    (s .pre .0, (kept-below (s .pre .1) a _ (omega arith), a .grows .gathers))
 
 add-i : tie.Need-add-i Inv-loop μ-loop
 add-i c = omega (arith, c .before .before .before .before .before .before .before .before .before .before .before .pre .1 .fits)

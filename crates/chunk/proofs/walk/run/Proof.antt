@@ -40,29 +40,29 @@ loop-holds : tie.Need-loop-holds Inv-loop μ-loop
 loop-holds c = (omega arith, refl, refl, λ p first h. runs-first h)
 
 same-length : tie.Need-same-length Inv-loop μ-loop
-same-length c = c .before .before .loop .inv .1
+same-length c = c .before .loop .inv .1
 
 same-length-2 : tie.Need-same-length-2 Inv-loop μ-loop
-same-length-2 c = c .before .before .loop .inv .2
+same-length-2 c = c .before .loop .inv .2
 
 returns : tie.Need-returns Inv-loop μ-loop
-returns c p s h = ends (c .before .before .loop .inv .3 p s h) (omega arith)
+returns c p s h = ends (c .before .loop .inv .3 p s h) (omega arith)
 
 same-length-3 : tie.Need-same-length-3 Inv-loop μ-loop
-same-length-3 c = c .before .before .before .loop .inv .1
+same-length-3 c = c .before .before .loop .inv .1
 
 same-length-4 : tie.Need-same-length-4 Inv-loop μ-loop
-same-length-4 c = c .before .before .before .loop .inv .2
+same-length-4 c = c .before .before .loop .inv .2
 
 returns-2 : tie.Need-returns-2 Inv-loop μ-loop
-returns-2 c p s h = spends (c .before .before .before .loop .inv .3 p s h) (omega arith) (omega arith)
+returns-2 c p s h = spends (c .before .before .loop .inv .3 p s h) (omega arith) (omega arith)
 
 add-made : tie.Need-add-made Inv-loop μ-loop
 add-made c = omega arith
 
 visit-requires : tie.Need-visit-requires Inv-loop μ-loop
 visit-requires c κs =
-    let l = c .before .before .before .before .before in
+    let l = c .before .before .before .before in
     let start = l .before .before .before .before .before .before .before in
     let r = l .loop .inv .3 (start .pre .0) (start .pre .1) (start .pre .2) in
     (omega arith, (start .pre .0, r .state, r .walking))
@@ -76,26 +76,26 @@ enum-known-o-2 c = c .match2 .keys1
 same-length-5 : tie.Need-same-length-5 Inv-loop μ-loop
 same-length-5 c =
     let v = c .before .before .before .before .before .before in
-    v .visit .kept .1 .1 .1 .1 .0 ∙ v .before .before .before .before .before .before .loop .inv .1
+    v .visit .kept .1 .1 .1 .1 .0 ∙ v .before .before .before .before .before .loop .inv .1
 
 same-length-6 : tie.Need-same-length-6 Inv-loop μ-loop
 same-length-6 c =
     let v = c .before .before .before .before .before .before in
-    v .visit .kept .1 .1 .1 .1 .1 .0 ∙ v .before .before .before .before .before .before .loop .inv .2
+    v .visit .kept .1 .1 .1 .1 .1 .0 ∙ v .before .before .before .before .before .loop .inv .2
 
 returns-3 : tie.Need-returns-3 Inv-loop μ-loop
 returns-3 c p s h =
     let v = c .before .before .before .before .before .before in
-    let r = v .before .before .before .before .before .before .loop .inv .3 p s h in
+    let r = v .before .before .before .before .before .loop .inv .3 p s h in
     fills r (omega arith) (omega arith) _ _ (only-full (v .visit .ensures p (r .state) (r .walking)) (c .before .match .keys2) (c .match2 .keys2))
 
 loop-less : tie.Need-loop-less Inv-loop μ-loop
-loop-less c = let v = c .before .before .before .before .before .before .before .before in omega (arith, v .before .before .before .before .before .before .loop .inv .0)
+loop-less c = let v = c .before .before .before .before .before .before .before .before in omega (arith, v .before .before .before .before .before .loop .inv .0)
 
 loop-again : tie.Need-loop-again Inv-loop μ-loop
 loop-again c =
     let v = c .before .before .before .before .before .before .before .before in
-    let l = v .before .before .before .before .before .before in (
+    let l = v .before .before .before .before .before in (
       omega arith,
       v .visit .kept .1 .1 .1 .1 .0 ∙ l .loop .inv .1,
       v .visit .kept .1 .1 .1 .1 .1 .0 ∙ l .loop .inv .2,
@@ -106,12 +106,12 @@ loop-again c =
     )
 
 loop-less-2 : tie.Need-loop-less-2 Inv-loop μ-loop
-loop-less-2 c = let v = c .before .before .before .before .before .before .before in omega (arith, v .before .before .before .before .before .before .loop .inv .0)
+loop-less-2 c = let v = c .before .before .before .before .before .before .before in omega (arith, v .before .before .before .before .before .loop .inv .0)
 
 loop-again-2 : tie.Need-loop-again-2 Inv-loop μ-loop
 loop-again-2 c =
     let v = c .before .before .before .before .before .before .before in
-    let l = v .before .before .before .before .before .before in (
+    let l = v .before .before .before .before .before in (
       omega arith,
       v .visit .kept .1 .1 .1 .1 .0 ∙ l .loop .inv .1,
       v .visit .kept .1 .1 .1 .1 .1 .0 ∙ l .loop .inv .2,

@@ -1,8 +1,6 @@
 -- `chunk::walk::visit` meets its contract. A module that is done, or one that is not. Assumes nothing.
-use Prim.Native.Nat.{_-_}
 use mathlib.Core.Path.{sym, _∙_}
-use lib.ListN.{getD}
-use Rattle.chunk.specs.CameLaws.{behind, at-front, from-front, front-below, came-done}
+use Rattle.chunk.specs.CameLaws.{front-below, behind, at-front, from-front, is-passed, is-undone}
 use borrow.Author.Needs.{needs}
 use Rattle.chunk.proofs.walk.visit.Statement.{statement}
 use Rattle.chunk.proofs.walk.visit.Tie as tie
@@ -23,16 +21,15 @@ returns : tie.Need-returns
 returns c p s h =
     let t = c .before in
     let start = t .before .before .before .before .before .before .before .before .before .before in
-    let done = sym (h .shows .done (getD (start .args .list .now) (start .args .w .end - 1) 0)) ∙ sym (t .before .has .ensures) ∙ t .if1 .taken in
-    rw (c .passed .ensures) (from-front h (start .pre .0) (came-done (at-front h (start .pre .0)) done))
+    rw (c .passed .ensures) (is-passed h (start .pre .0) (sym (t .before .has .ensures) ∙ t .if1 .taken))
 
 visit-undone-requires : tie.Need-visit-undone-requires
 visit-undone-requires c κs =
     let t = c .before .before in
-    let start = t .before .before .before .before .before .before .before .before .before .before in
-    let h = start .pre .1 .2 in
-    let undone = sym (h .shows .done (getD (start .args .list .now) (start .args .w .end - 1) 0)) ∙ sym (t .before .has .ensures) ∙ t .if1 .left in
-    (behind (start .pre .1 .0) (start .args .list .now) (start .args .w) (start .pre .1 .1), record { walking = at-front h (start .pre .0); undone = undone })
+    let start = t .before .before .before .before .before .before .before .before .before .before in (
+      behind (start .pre .1 .0) (start .args .list .now) (start .args .w) (start .pre .1 .1),
+      is-undone (start .pre .1 .2) (start .pre .0) (sym (t .before .has .ensures) ∙ t .if1 .left),
+    )
 
 same-length : tie.Need-same-length
 same-length c = search needs
@@ -45,9 +42,9 @@ returns-2 c p s h =
     let v = c .before .before .before .before in
     let t = v .before .before .before in
     let start = t .before .before .before .before .before .before .before .before .before .before in
-    let undone = sym (h .shows .done (getD (start .args .list .now) (start .args .w .end - 1) 0)) ∙ sym (t .before .has .ensures) ∙ t .if1 .left in
     from-front h (start .pre .0)
-    (v .visit-undone .ensures (behind p (start .args .list .now) (start .args .w) s) (record { walking = at-front h (start .pre .0); undone = undone }))
+    (v .visit-undone .ensures (behind p (start .args .list .now) (start .args .w) s)
+    (is-undone h (start .pre .0) (sym (t .before .has .ensures) ∙ t .if1 .left)))
 
 pub visit-spec : {M : Type 1} → statement M
 visit-spec =
