@@ -1,4 +1,4 @@
 // Groups of modules: cycles_for and toposort_real_module_ids.
-pub mod circles;
-pub mod imports;
+mod circles;
+mod imports;
 pub mod walk;
