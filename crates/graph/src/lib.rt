@@ -1,0 +1,77 @@
+// The graph of one group's needs (StmtDepGraph): weights, what each item reaches, the record of paths, and neighbours in the order of first rows. The
+// items are the numbers below n. A matrix has a row of `words` words for each of them. `remove_node` takes out nothing, so there is none here.
+ghost use Prim.Native.Nat.{_+_, _*_};
+ghost use lib.Dec.{eqb};
+ghost use Rattle.graph.specs.Rows.{Place, Stored};
+ghost use Rattle.graph.specs.Graph.{matrices, Space, Cleared, EdgeRoom, EdgeAdded};
+
+pub mod neighbours;
+pub mod rows;
+mod transitives;
+
+use lists::bits;
+use lists::pairs;
+
+// Clears the matrices for n items: the graph without needs, with no pair yet.
+pub fn clear(
+    seen: &mut [u64],
+    weak: &mut [u64],
+    reach: &mut [u64],
+    paths: &mut [u64],
+    words: usize,
+    n: usize,
+)
+    requires { ⌜ Space words n (matrices (now seen) (now weak) (now reach) (now paths)) ⌝ }
+    ensures { λ _. ⌜
+        Cleared words n (matrices (now (seen .entry)) (now (weak .entry)) (now (reach .entry)) (now (paths .entry)))
+        (matrices (now (seen .exit)) (now (weak .exit)) (now (reach .exit)) (now (paths .exit))) ⌝ }
+{
+    let size = n * words;
+    rows::clear_words(seen, size);
+    rows::clear_words(weak, size);
+    rows::clear_words(reach, size);
+    rows::clear_words(paths, size);
+}
+
+// Notes the weight of the pair (x, y): whether it is Maybe.
+fn set_weight(weak: &mut [u64], words: usize, x: usize, y: usize, weight: u8)
+    requires { ⌜ Place words x y (now weak) ⌝ }
+    ensures { λ _. ⌜ Stored (x * (64 * words) + y) (eqb weight 1) (now (weak .entry)) (now (weak .exit)) ⌝ }
+{
+    let width = 64 * words;
+    if weight == 1 {
+        bits::row_insert(weak, x * width + y);
+    } else {
+        bits::row_remove(weak, x * width + y);
+    }
+}
+
+// Adds the need x to y behind `count` different pairs (add_edge); their number then.
+pub fn add_edge(
+    seen: &mut [u64],
+    weak: &mut [u64],
+    reach: &mut [u64],
+    paths: &mut [u64],
+    from: &mut [u16],
+    to: &mut [u16],
+    count: usize,
+    words: usize,
+    n: usize,
+    x: u16,
+    y: u16,
+    weight: u8,
+) -> usize
+    requires { ⌜ EdgeRoom words n x y (matrices (now seen) (now weak) (now reach) (now paths)) (now from) (now to) count ⌝ }
+    ensures { λ r. ⌜
+        EdgeAdded words n x y weight
+        (matrices (now (seen .entry)) (now (weak .entry)) (now (reach .entry)) (now (paths .entry))) (now (from .entry)) (now (to .entry)) count
+        (matrices (now (seen .exit)) (now (weak .exit)) (now (reach .exit)) (now (paths .exit))) (now (from .exit)) (now (to .exit)) r ⌝ }
+{
+    let a = x as usize;
+    let b = y as usize;
+    let more = pairs::add(seen, from, to, count, 64 * words, x, y);
+    set_weight(weak, words, a, b, weight);
+    transitives::add_reach(reach, words, n, a, b);
+    transitives::insert_transitives(paths, reach, words, n, a, b);
+    more
+}

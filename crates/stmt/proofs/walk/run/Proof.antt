@@ -1,0 +1,210 @@
+-- `stmt::walk::run` meets its contract. The loop's invariant: whatever state the arrays showed at first, they now show one from which the run of the
+-- definition goes on, with the visits made. The measure is what is left of the allowance. Assumes nothing.
+use Prim.Native.Nat.{ℕ, _-_, _≤_, _<_}
+use native.Mathlib.Omega.{arith}
+use mathlib.Core.Path.{_≡_, refl, sym, _∙_}
+use mathlib.Core.Logic.{_⊎_, ⊎-elim}
+use mathlib.Core.List.{List}
+use lib.ListN.{length}
+use denote.Enum.Declared.{tagOf}
+use Rattle.rules.specs.Items.{Group, ItemState, itemList}
+use Rattle.rules.specs.Calls.{itemListLimit}
+use Rattle.laws.specs.Splits.{size}
+use Rattle.stmt.specs.declared.walk.Outcome.{Outcome}
+use Rattle.stmt.proofs.walk.Outcome.{the-type}
+use Rattle.stmt.specs.Walks.{Walking, Running, Came, went-on, placed-one, was-full}
+use Rattle.stmt.specs.RunLaws.{entry-left, runs-first, ends, spends, shown-on, shown-placed, fills, goes-on}
+use Rattle.stmt.proofs.walk.run.Statement.{statement}
+use Rattle.stmt.proofs.walk.run.Tie as tie
+
+-- An outcome that neither went on nor placed an item is a full list.
+abbrev tag : Outcome → ℕ
+tag = tagOf the-type
+
+only-full : {g : Group} {before : List ℕ} {t : ItemState} {width : ℕ} {placed moved order list : List ℕ} {o : Outcome}
+    → Came g before t width placed moved order list o → (tag o ≡ 1) ⊎ (tag o ≡ 2) → (tag o ≡ 0) ⊎ (tag o ≡ 2) → itemListLimit < length (itemList t)
+only-full (went-on e h) a b = ⊎-elim (λ e. absurd (omega arith)) (λ e. absurd (omega arith)) a
+only-full (placed-one e h) a b = ⊎-elim (λ e. absurd (omega arith)) (λ e. absurd (omega arith)) b
+only-full (was-full f) a b = f
+
+-- the arrays that visits change, as long as they were
+record Lengths (placed₀ moved₀ open₀ order₀ list₀ placed moved «open» order list : List ℕ) : Type 0 where
+  of-placed : length placed ≡ length placed₀
+  of-moved : length moved ≡ length moved₀
+  of-open : length «open» ≡ length open₀
+  of-order : length order ≡ length order₀
+  of-list : length list ≡ length list₀
+
+abbrev Inv-loop : tie.InvT-loop
+Inv-loop to heads-out next-out from heads-in next-in paths weak kinds low high width placed₀ moved₀ open₀ order₀ list₀ n allowance already w₀ made₀ placed moved «open» order list w made =
+    (made ≤ allowance) × Lengths placed₀ moved₀ open₀ order₀ list₀ placed moved «open» order list
+    × ((g : Group) (first : ItemState) → n ≡ size g
+    → Walking g to heads-out next-out from heads-in next-in paths weak kinds low high width placed₀ moved₀ open₀ order₀ list₀ w₀ first
+    → Running g to heads-out next-out from heads-in next-in paths weak kinds low high width allowance already first placed moved «open» order list w made)
+
+abbrev μ-loop : tie.MeasureT-loop
+μ-loop to heads-out next-out from heads-in next-in paths weak kinds low high width placed₀ moved₀ open₀ order₀ list₀ n allowance already w₀ made₀ placed moved «open» order list w made =
+    allowance - made
+
+loop-holds : tie.Need-loop-holds Inv-loop μ-loop
+loop-holds c =
+    (omega arith, record { of-placed = refl; of-moved = refl; of-open = refl; of-order = refl; of-list = refl }, λ g first e h. runs-first h)
+
+same-length : tie.Need-same-length Inv-loop μ-loop
+same-length c = c .before .before .loop .inv .1 .of-placed
+
+same-length-2 : tie.Need-same-length-2 Inv-loop μ-loop
+same-length-2 c = c .before .before .loop .inv .1 .of-moved
+
+same-length-3 : tie.Need-same-length-3 Inv-loop μ-loop
+same-length-3 c = c .before .before .loop .inv .1 .of-open
+
+same-length-4 : tie.Need-same-length-4 Inv-loop μ-loop
+same-length-4 c = c .before .before .loop .inv .1 .of-order
+
+same-length-5 : tie.Need-same-length-5 Inv-loop μ-loop
+same-length-5 c = c .before .before .loop .inv .1 .of-list
+
+returns : tie.Need-returns Inv-loop μ-loop
+returns c g s e h = ends (c .before .before .loop .inv .2 g s e h) e (omega arith)
+
+same-length-6 : tie.Need-same-length-6 Inv-loop μ-loop
+same-length-6 c = c .before .before .before .loop .inv .1 .of-placed
+
+same-length-7 : tie.Need-same-length-7 Inv-loop μ-loop
+same-length-7 c = c .before .before .before .loop .inv .1 .of-moved
+
+same-length-8 : tie.Need-same-length-8 Inv-loop μ-loop
+same-length-8 c = c .before .before .before .loop .inv .1 .of-open
+
+same-length-9 : tie.Need-same-length-9 Inv-loop μ-loop
+same-length-9 c = c .before .before .before .loop .inv .1 .of-order
+
+same-length-10 : tie.Need-same-length-10 Inv-loop μ-loop
+same-length-10 c = c .before .before .before .loop .inv .1 .of-list
+
+returns-2 : tie.Need-returns-2 Inv-loop μ-loop
+returns-2 c g s e h = spends (c .before .before .before .loop .inv .2 g s e h) (λ q. omega arith) (omega arith)
+
+add-made : tie.Need-add-made Inv-loop μ-loop
+add-made c = omega arith
+
+abbrev entry : tie.At-loop Inv-loop μ-loop → tie.Start Inv-loop μ-loop
+entry c = c .before .before .before .before .before .before .before .before .before .before .before .before .before .before .before .before .before
+
+visit-requires : tie.Need-visit-requires Inv-loop μ-loop
+visit-requires c κs =
+    let head = c .before .before .before .before .before .before .before .before in
+    let start = entry head in
+    let r = head .loop .inv .2 (start .pre .1 .0) (start .pre .1 .1) (start .pre .1 .2) (start .pre .1 .3) in
+    (entry-left (r .walking) (λ q. c .before .before .before .before .before .before .if1 .left (q ∙ sym (start .pre .1 .2))), (start .pre .1 .0, r .state, r .walking))
+
+-- after the visit
+abbrev head : tie.After-visit Inv-loop μ-loop → tie.At-loop Inv-loop μ-loop
+head v = v .before .before .before .before .before .before .before .before .before
+
+lengths : (v : tie.After-visit Inv-loop μ-loop) → Lengths (entry (head v) .args .placed .now) (entry (head v) .args .moved .now) (entry (head v) .args .«open» .now) (entry (head v) .args .order .now) (entry (head v) .args .list .now) (v .visit .last .1 .1 .1 .1 .1 .1 .1 .1 .1 .1 .1 .1 .0) (v .visit .last .1 .1 .1 .1 .1 .1 .1 .1 .1 .1 .1 .1 .1 .0) (v .visit .last .1 .1 .1 .1 .1 .1 .1 .1 .1 .1 .1 .1 .1 .1 .0) (v .visit .last .1 .1 .1 .1 .1 .1 .1 .1 .1 .1 .1 .1 .1 .1 .1 .0) (v .visit .last .1 .1 .1 .1 .1 .1 .1 .1 .1 .1 .1 .1 .1 .1 .1 .1 .0)
+lengths v =
+    let before = head v .loop .inv .1 in
+    record {
+      of-placed = v .visit .kept .1 .1 .1 .1 .1 .1 .1 .1 .1 .1 .1 .1 .0 ∙ before .of-placed;
+      of-moved = v .visit .kept .1 .1 .1 .1 .1 .1 .1 .1 .1 .1 .1 .1 .1 .0 ∙ before .of-moved;
+      of-open = v .visit .kept .1 .1 .1 .1 .1 .1 .1 .1 .1 .1 .1 .1 .1 .1 .0 ∙ before .of-open;
+      of-order = v .visit .kept .1 .1 .1 .1 .1 .1 .1 .1 .1 .1 .1 .1 .1 .1 .1 .0 ∙ before .of-order;
+      of-list = v .visit .kept .1 .1 .1 .1 .1 .1 .1 .1 .1 .1 .1 .1 .1 .1 .1 .1 .0 ∙ before .of-list;
+    }
+
+more : (v : tie.After-visit Inv-loop μ-loop) (g : Group) → entry (head v) .args .n ≡ size g → head v .loop .w .placed ≡ size g → ⊥
+more v g e q = v .before .before .before .before .before .before .before .if1 .left (q ∙ sym e)
+
+left : (v : tie.After-visit Inv-loop μ-loop) → head v .loop .made < entry (head v) .args .allowance
+left v = omega (arith, v .before .before .before .before .before .before .if2 .left, head v .loop .inv .0)
+
+enum-known-o : tie.Need-enum-known-o Inv-loop μ-loop
+enum-known-o c = c .match .keys1
+
+enum-known-o-2 : tie.Need-enum-known-o-2 Inv-loop μ-loop
+enum-known-o-2 c = c .match2 .keys1
+
+same-length-11 : tie.Need-same-length-11 Inv-loop μ-loop
+same-length-11 c = lengths (c .before .before .before .before .before .before .before .before .before .before .before .before) .of-placed
+
+same-length-12 : tie.Need-same-length-12 Inv-loop μ-loop
+same-length-12 c = lengths (c .before .before .before .before .before .before .before .before .before .before .before .before) .of-moved
+
+same-length-13 : tie.Need-same-length-13 Inv-loop μ-loop
+same-length-13 c = lengths (c .before .before .before .before .before .before .before .before .before .before .before .before) .of-open
+
+same-length-14 : tie.Need-same-length-14 Inv-loop μ-loop
+same-length-14 c = lengths (c .before .before .before .before .before .before .before .before .before .before .before .before) .of-order
+
+same-length-15 : tie.Need-same-length-15 Inv-loop μ-loop
+same-length-15 c = lengths (c .before .before .before .before .before .before .before .before .before .before .before .before) .of-list
+
+returns-3 : tie.Need-returns-3 Inv-loop μ-loop
+returns-3 c g s e h =
+    let v = c .before .before .before .before .before .before .before .before .before .before .before .before in
+    let r = head v .loop .inv .2 g s e h in
+    fills r (more v g e) (left v) _ (only-full (v .visit .ensures g (r .state) (r .walking)) (c .before .match .keys2) (c .match2 .keys2))
+
+loop-less : tie.Need-loop-less Inv-loop μ-loop
+loop-less c = let v = c .before .before .before .before .before .before .before .before .before .before .before .before .before .before in omega (arith, left v)
+
+loop-again : tie.Need-loop-again Inv-loop μ-loop
+loop-again c =
+    let v = c .before .before .before .before .before .before .before .before .before .before .before .before .before .before in (
+      omega (arith, left v),
+      lengths v,
+      λ g first e h.
+          let r = head v .loop .inv .2 g first e h in
+          goes-on r (more v g e) (left v) (v .visit .kept .1 .1 .1 .1 .1 .1 .1 .1 .1 .1 .1 .1 .1 .1 .0)
+          (shown-placed (c .before .o2 .given .1) (v .visit .ensures g (r .state) (r .walking))),
+    )
+
+loop-less-2 : tie.Need-loop-less-2 Inv-loop μ-loop
+loop-less-2 c = let v = c .before .before .before .before .before .before .before .before .before .before .before .before .before in omega (arith, left v)
+
+loop-again-2 : tie.Need-loop-again-2 Inv-loop μ-loop
+loop-again-2 c =
+    let v = c .before .before .before .before .before .before .before .before .before .before .before .before .before in (
+      omega (arith, left v),
+      lengths v,
+      λ g first e h.
+          let r = head v .loop .inv .2 g first e h in
+          goes-on r (more v g e) (left v) (v .visit .kept .1 .1 .1 .1 .1 .1 .1 .1 .1 .1 .1 .1 .1 .1 .0)
+          (shown-on (c .before .o .given .1) (v .visit .ensures g (r .state) (r .walking))),
+    )
+
+pub run-spec : {M : Type 1} → statement M
+run-spec =
+    tie.close
+    (tie.spec
+    Inv-loop
+    μ-loop
+    loop-holds
+    same-length
+    same-length-2
+    same-length-3
+    same-length-4
+    same-length-5
+    returns
+    same-length-6
+    same-length-7
+    same-length-8
+    same-length-9
+    same-length-10
+    returns-2
+    add-made
+    visit-requires
+    enum-known-o
+    enum-known-o-2
+    same-length-11
+    same-length-12
+    same-length-13
+    same-length-14
+    same-length-15
+    returns-3
+    loop-less
+    loop-again
+    loop-less-2
+    loop-again-2)

@@ -1,0 +1,81 @@
+-- `stmt::walk::visit` meets its contract: whichever state the arrays show, it has the item read in front. Assumes nothing.
+use Prim.Native.Nat.{_-_}
+use native.Mathlib.Omega.{arith}
+use mathlib.Core.Path.{refl, sym, _∙_}
+use borrow.Author.Needs.{needs}
+use Rattle.stmt.specs.VisitLaws.{in-front, by-front, front-bit, front-within, visit-passed}
+use Rattle.stmt.proofs.walk.visit.Statement.{statement}
+use Rattle.stmt.proofs.walk.visit.Tie as tie
+
+abbrev entry : tie.After-row-has-arg → tie.Start
+entry c = c .before .before .before .before .before .before .before .before .before .before .before .before .before .before .before .before .before .before .before
+
+sub-top : tie.Need-sub-top
+sub-top c = search needs
+
+mul-x : tie.Need-mul-x
+mul-x c = search needs
+
+slice-read-x : tie.Need-slice-read-x
+slice-read-x c = search needs
+
+cast-row-has : tie.Need-cast-row-has
+cast-row-has c = omega (arith, c .before .slice-known6 .given (entry c .args .w .end - 1))
+
+row-has-requires : tie.Need-row-has-requires
+row-has-requires c κs = front-within (in-front (entry c .pre .1 .1) (entry c .pre .1 .2) (entry c .pre .0) .3)
+
+same-length : tie.Need-same-length
+same-length c = refl
+
+returns : tie.Need-returns
+returns c g s h =
+    by-front s h (entry (c .before .before) .pre .0)
+    (λ rest items pairs k. visit-passed k (sym (c .before .row-has .ensures) ∙ c .if1 .taken))
+
+visit-unplaced-requires : tie.Need-visit-unplaced-requires
+visit-unplaced-requires c κs =
+    let start = entry (c .before .before .before .before .before .before .before) in
+    let f = in-front (start .pre .1 .1) (start .pre .1 .2) (start .pre .0) in
+    (start .pre .1 .0, f .0, f .1, f .2, sym (front-bit (f .3)) ∙ sym (c .before .before .before .before .before .before .row-has .ensures) ∙ c .before .before .before .before .before .if1 .left, f .3)
+
+same-length-2 : tie.Need-same-length-2
+same-length-2 c = c .before .before .before .before .before .before .before .before .before .before .visit-unplaced .kept .1 .1 .1 .1 .1 .1 .1 .1 .1 .1 .1 .1 .0
+
+same-length-3 : tie.Need-same-length-3
+same-length-3 c = c .before .before .before .before .before .before .before .before .before .before .visit-unplaced .kept .1 .1 .1 .1 .1 .1 .1 .1 .1 .1 .1 .1 .1 .0
+
+same-length-4 : tie.Need-same-length-4
+same-length-4 c = c .before .before .before .before .before .before .before .before .before .before .visit-unplaced .kept .1 .1 .1 .1 .1 .1 .1 .1 .1 .1 .1 .1 .1 .1 .0
+
+same-length-5 : tie.Need-same-length-5
+same-length-5 c = c .before .before .before .before .before .before .before .before .before .before .visit-unplaced .kept .1 .1 .1 .1 .1 .1 .1 .1 .1 .1 .1 .1 .1 .1 .1 .0
+
+same-length-6 : tie.Need-same-length-6
+same-length-6 c = c .before .before .before .before .before .before .before .before .before .before .visit-unplaced .kept .1 .1 .1 .1 .1 .1 .1 .1 .1 .1 .1 .1 .1 .1 .1 .1 .0
+
+returns-2 : tie.Need-returns-2
+returns-2 c g s h =
+    let called = c .before .before .before .before .before .before .before .before .before .before in
+    by-front s h (entry (called .before .before .before .before .before .before .before .before) .pre .0)
+    (λ rest items pairs k.
+    called .visit-unplaced .ensures g rest items pairs (sym (front-bit k) ∙ sym (called .before .before .before .before .before .before .before .row-has .ensures) ∙ called .before .before .before .before .before .before .if1 .left) k)
+
+pub visit-spec : {M : Type 1} → statement M
+visit-spec =
+    tie.close
+    (tie.spec
+    sub-top
+    mul-x
+    slice-read-x
+    cast-row-has
+    row-has-requires
+    same-length
+    returns
+    visit-unplaced-requires
+    same-length-2
+    same-length-3
+    same-length-4
+    same-length-5
+    same-length-6
+    returns-2)

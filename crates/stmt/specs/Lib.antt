@@ -1,0 +1,4 @@
+pub mod Walks
+pub mod WalkLaws
+pub mod VisitLaws
+pub mod RunLaws

@@ -1,0 +1,562 @@
+// The item walk (iter).
+use lists::bits;
+ghost use Prim.Native.Nat.{ℕ, _+_, _*_, _-_, _≤_, _<_};
+ghost use mathlib.Core.Path.{_≡_};
+ghost use mathlib.Core.List.{List, _∷_, _++_};
+ghost use lib.Dec.{eqb};
+ghost use lib.ListN.{length, getD, take, set};
+ghost use mathlib.Core.Bool.{false, not, _&&_};
+ghost use Rattle.rules.specs.Lists.{elem};
+ghost use Rattle.rules.specs.Walk.{run as runs};
+ghost use Rattle.rules.specs.Items.{isInjected, mayDrop, Group, ItemState, itemState, waiting, oneByOne, preceding as precedingOf, afterPreceding, visitItem, placedOf, itemWalk};
+ghost use Rattle.rules.specs.Calls.{itemListLimit};
+ghost use Rattle.lists.specs.Bits.{bitAt, Inserted};
+ghost use Rattle.lists.specs.Stacks.{stack};
+ghost use Rattle.laws.specs.Splits.{size};
+ghost use Rattle.stmt.specs.Walks.{Cell, Noted, Skippable, Skipped, Testable, stays as staysOpen, Findable, Found, Listed, Relisted, Awaited, Pushed, Precedable, First, Front, Put, Settling, Walking, Came, Ended};
+
+// The numbers of the walk's state: the end of the list and how many items are placed.
+pub struct ItemWalk {
+    pub end: usize,
+    pub placed: usize,
+}
+
+// What a visit came to.
+pub enum Outcome {
+    WentOn(ItemWalk),
+    Placed(ItemWalk),
+    ListFull,
+}
+
+// How a run stopped, with the visits made.
+pub enum Ending {
+    Finished(u32),
+    Spent(u32),
+    Full(u32),
+}
+
+impl ItemWalk {
+    // The most entries that a visit may leave.
+    pub const LIST: usize = 16384;
+
+    // The state before the first visit: the list holds `end` entries, nothing is placed.
+    pub fn new(end: usize) -> Self
+        ensures { λ r. ⌜ r ≡ record { end = end; placed = 0 } ⌝ }
+    {
+        Self { end, placed: 0 }
+    }
+}
+
+// Whether an open dependency of an item of this kind may be dropped.
+fn may_drop(kind: u8, weak: bool) -> bool
+    ensures { λ r. ⌜ ((weight : ℕ) → weak ≡ eqb weight 1 → r ≡ mayDrop kind weight) ⌝ }
+{
+    match kind {
+        1..=2 => true,
+        3 => weak,
+        _ => false,
+    }
+}
+
+// Whether row a of a table of bits holds b.
+fn has_pair(words: &[u64], width: usize, a: u16, b: u16) -> bool
+    requires { ⌜ Cell width a b (now words) ⌝ }
+    ensures { λ r. ⌜ r ≡ bitAt (now (words .entry)) (a * width + b) ⌝ }
+{
+    bits::row_has(words, (a as usize) * width + b as usize)
+}
+
+// Notes the pair (x, d) as moved; whether it had moved already.
+fn note(moved: &mut [u64], width: usize, x: u16, d: u16) -> bool
+    requires { ⌜ Cell width x d (now moved) ⌝ }
+    ensures { λ r. ⌜ Noted (x * width + d) (now (moved .entry)) (now (moved .exit)) r ⌝ }
+{
+    let k = (x as usize) * width + d as usize;
+    if bits::row_has(moved, k) {
+        return true;
+    }
+    bits::row_insert(moved, k);
+    false
+}
+
+// Step 2 for a dependency d of x: whether it is skipped, being in x's range or their pair having moved. Notes the pair as moved.
+fn skips(
+    paths: &[u64],
+    moved: &mut [u64],
+    width: usize,
+    x: u16,
+    d: u16,
+    kind: u8,
+    low: u16,
+    high: u16,
+) -> bool
+    requires { ⌜ ((g : Group) × (pairs : List (ℕ × ℕ)) × Skippable g pairs (now paths) (now moved) width x d kind low high) ⌝ }
+    ensures { λ r. ⌜ ((g : Group) (pairs : List (ℕ × ℕ)) → Skippable g pairs (now (paths .entry)) (now (moved .entry)) width x d kind low high
+        → Skipped g pairs (now (moved .exit)) width x d r) ⌝ }
+{
+    if low <= d && d < high {
+        return true;
+    }
+    if kind == 4 {
+        return false;
+    }
+    if !has_pair(paths, width, d, x) {
+        return false;
+    }
+    note(moved, width, x, d)
+}
+
+// Whether a dependency d of x that is not skipped stays: it is not placed, and step 3 does not drop it.
+fn stays(
+    paths: &[u64],
+    weak: &[u64],
+    placed: &[u64],
+    width: usize,
+    x: u16,
+    d: u16,
+    kind: u8,
+) -> bool
+    requires { ⌜ ((g : Group) × (items : List ℕ) × Testable g items (now paths) (now weak) (now placed) width x d kind) ⌝ }
+    ensures { λ r. ⌜ ((g : Group) (items : List ℕ) → Testable g items (now (paths .entry)) (now (weak .entry)) (now (placed .entry)) width x d kind
+        → r ≡ staysOpen g items x d) ⌝ }
+{
+    if bits::row_has(placed, d as usize) {
+        return false;
+    }
+    if !has_pair(paths, width, d, x) {
+        return true;
+    }
+    !may_drop(kind, has_pair(weak, width, x, d))
+}
+
+// The dependencies of x that stay, in their order, written to `open`; how many. Notes pairs as moved.
+fn find_open(
+    to: &[u16],
+    heads: &[u16],
+    next: &[u16],
+    paths: &[u64],
+    weak: &[u64],
+    kinds: &[u8],
+    low: &[u16],
+    high: &[u16],
+    width: usize,
+    placed: &[u64],
+    moved: &mut [u64],
+    open: &mut [u16],
+    x: u16,
+) -> usize
+    requires { ⌜ ((g : Group) × (items : List ℕ) × (pairs : List (ℕ × ℕ))
+        × Findable g items pairs (now to) (now heads) (now next) (now paths) (now weak) (now kinds) (now low) (now high) width (now placed) (now moved)
+        (now «open») x) ⌝ }
+    ensures { λ r. ⌜ ((g : Group) (items : List ℕ) (pairs : List (ℕ × ℕ))
+        → Findable g items pairs (now (to .entry)) (now (heads .entry)) (now (next .entry)) (now (paths .entry)) (now (weak .entry))
+        (now (kinds .entry)) (now (low .entry)) (now (high .entry)) width (now (placed .entry)) (now (moved .entry)) (now («open» .entry)) x
+        → Found g items pairs width x (now (moved .exit)) (now («open» .exit)) r) ⌝ }
+{
+    let at = x as usize;
+    let kind = kinds[at];
+    let start = low[at];
+    let end = high[at];
+    let mut n = 0;
+    let mut e = heads[at] as usize;
+    while e != 0 {
+        let d = to[e - 1];
+        if !skips(paths, moved, width, x, d, kind, start, end)
+            && stays(paths, weak, placed, width, x, d, kind)
+        {
+            open[n] = d;
+            n += 1;
+        }
+        e = next[e - 1] as usize;
+    }
+    n
+}
+
+// Puts n open dependencies before the front item, which stays on the list: the first foremost.
+fn put_open(list: &mut [u16], open: &[u16], n: usize, w: ItemWalk) -> Outcome
+    requires { ⌜ Listed (now list) (w .end) (stack (now list) (w .end)) × (n ≤ length (now «open»)) ⌝ }
+    ensures { λ r. ⌜ Relisted (take n (now («open» .entry)) ++ stack (now (list .entry)) (w .end)) (w .placed) (now (list .exit)) r ⌝ }
+{
+    let end = w.end + n;
+    if ItemWalk::LIST < end {
+        return Outcome::ListFull;
+    }
+    let mut i = 0;
+    while i < n {
+        list[end - 1 - i] = open[i];
+        i += 1;
+    }
+    Outcome::WentOn(ItemWalk {
+        end,
+        placed: w.placed,
+    })
+}
+
+// Whether a dependant d is waiting: it is injected and not placed.
+fn is_waiting(kinds: &[u8], placed: &[u64], d: u16) -> bool
+    requires { ⌜ (d < length (now kinds)) × (d < length (now placed) * 64) ⌝ }
+    ensures { λ r. ⌜ r ≡ (isInjected (getD (now (kinds .entry)) d 0) && not (bitAt (now (placed .entry)) d)) ⌝ }
+{
+    let i = d as usize;
+    kinds[i] == 4 && !bits::row_has(placed, i)
+}
+
+// Pushes the unplaced injected dependants of x one by one; the end then, or one more than the limit where they do not fit.
+fn push_waiting(
+    from: &[u16],
+    heads: &[u16],
+    next: &[u16],
+    kinds: &[u8],
+    placed: &[u64],
+    list: &mut [u16],
+    end: usize,
+    x: u16,
+) -> usize
+    requires { ⌜ ((g : Group) × (items : List ℕ) × Awaited g items (now from) (now heads) (now next) (now kinds) (now placed) x) ⌝ }
+    requires { ⌜ Listed (now list) end (stack (now list) end) ⌝ }
+    ensures { λ r. ⌜ ((g : Group) (items : List ℕ)
+        → Awaited g items (now (from .entry)) (now (heads .entry)) (now (next .entry)) (now (kinds .entry)) (now (placed .entry)) x
+        → Pushed (oneByOne (waiting g items x) (stack (now (list .entry)) end)) (now (list .exit)) r) ⌝ }
+{
+    let mut at = end;
+    let mut e = heads[x as usize] as usize;
+    while e != 0 {
+        let d = from[e - 1];
+        if is_waiting(kinds, placed, d) {
+            if at == ItemWalk::LIST {
+                return ItemWalk::LIST + 1;
+            }
+            list[at] = d;
+            at += 1;
+        }
+        e = next[e - 1] as usize;
+    }
+    at
+}
+
+// The first unplaced number below x in its range whose pair with x has not moved; x where there is none.
+fn preceding(placed: &[u64], moved: &[u64], width: usize, low: u16, x: u16) -> u16
+    requires { ⌜ ((g : Group) × (items : List ℕ) × (pairs : List (ℕ × ℕ)) × Precedable g items pairs (now placed) (now moved) width low x) ⌝ }
+    ensures { λ r. ⌜ ((g : Group) (items : List ℕ) (pairs : List (ℕ × ℕ))
+        → Precedable g items pairs (now (placed .entry)) (now (moved .entry)) width low x → First x (precedingOf g items pairs x) r) ⌝ }
+{
+    let mut p = low;
+    while p < x {
+        if !bits::row_has(placed, p as usize) && !has_pair(moved, width, x, p) {
+            return p;
+        }
+        p += 1;
+    }
+    x
+}
+
+// Places x.
+fn place(placed: &mut [u64], order: &mut [u16], n: usize, x: u16)
+    requires { ⌜ (x < length (now placed) * 64) × (n < length (now order)) ⌝ }
+    ensures { λ _. ⌜ Inserted x (now (placed .entry)) (now (placed .exit)) × (now (order .exit) ≡ set (now (order .entry)) n x) ⌝ }
+{
+    bits::row_insert(placed, x as usize);
+    order[n] = x;
+}
+
+// Step 4: the unplaced injected dependants of the front item x go to the front in its place; x is placed.
+fn place_injected(
+    from: &[u16],
+    heads: &[u16],
+    next: &[u16],
+    kinds: &[u8],
+    placed: &mut [u64],
+    order: &mut [u16],
+    list: &mut [u16],
+    w: ItemWalk,
+    x: u16,
+) -> Outcome
+    requires { ⌜ ((g : Group) × (rest : List ℕ) × (items : List ℕ) × Awaited g items (now from) (now heads) (now next) (now kinds) (now placed) x
+        × Front (size g) (now placed) (now order) (now list) w x rest items) ⌝ }
+    ensures { λ r. ⌜ ((g : Group) (rest items : List ℕ)
+        → Awaited g items (now (from .entry)) (now (heads .entry)) (now (next .entry)) (now (kinds .entry)) (now (placed .entry)) x
+        → Front (size g) (now (placed .entry)) (now (order .entry)) (now (list .entry)) w x rest items
+        → Put (size g) (oneByOne (waiting g items x) rest) (x ∷ items) (now (placed .exit)) (now (order .exit)) (now (list .exit)) r) ⌝ }
+{
+    let end = push_waiting(from, heads, next, kinds, placed, list, w.end - 1, x);
+    if ItemWalk::LIST < end {
+        return Outcome::ListFull;
+    }
+    place(placed, order, w.placed, x);
+    Outcome::Placed(ItemWalk {
+        end,
+        placed: w.placed + 1,
+    })
+}
+
+// The second half of step 5: those dependants of the front item x go to the front in its place, then x, then p.
+fn put_preceding(
+    from: &[u16],
+    heads: &[u16],
+    next: &[u16],
+    kinds: &[u8],
+    placed: &[u64],
+    list: &mut [u16],
+    w: ItemWalk,
+    x: u16,
+    p: u16,
+) -> Outcome
+    requires { ⌜ ((g : Group) × (items : List ℕ) × Awaited g items (now from) (now heads) (now next) (now kinds) (now placed) x) ⌝ }
+    requires { ⌜ (0 < w .end) × Listed (now list) (w .end) (stack (now list) (w .end)) ⌝ }
+    ensures { λ r. ⌜ ((g : Group) (items : List ℕ)
+        → Awaited g items (now (from .entry)) (now (heads .entry)) (now (next .entry)) (now (kinds .entry)) (now (placed .entry)) x
+        → Relisted (p ∷ x ∷ oneByOne (waiting g items x) (stack (now (list .entry)) (w .end - 1))) (w .placed) (now (list .exit)) r) ⌝ }
+{
+    let end = push_waiting(from, heads, next, kinds, placed, list, w.end - 1, x);
+    if ItemWalk::LIST < end + 2 {
+        return Outcome::ListFull;
+    }
+    list[end] = x;
+    list[end + 1] = p;
+    Outcome::WentOn(ItemWalk {
+        end: end + 2,
+        placed: w.placed,
+    })
+}
+
+// Step 5 for the front item x: it waits for the first item that precedes it, or is placed.
+fn visit_uninjected(
+    from: &[u16],
+    heads: &[u16],
+    next: &[u16],
+    kinds: &[u8],
+    low: u16,
+    width: usize,
+    placed: &mut [u64],
+    moved: &mut [u64],
+    order: &mut [u16],
+    list: &mut [u16],
+    w: ItemWalk,
+    x: u16,
+) -> Outcome
+    requires { ⌜ ((g : Group) × (rest : List ℕ) × (items : List ℕ) × (pairs : List (ℕ × ℕ))
+        × Settling g (now from) (now heads) (now next) (now kinds) low width (now placed) (now moved) (now order) (now list) w x rest items pairs) ⌝ }
+    ensures { λ r. ⌜ ((g : Group) (rest items : List ℕ) (pairs : List (ℕ × ℕ))
+        → Settling g (now (from .entry)) (now (heads .entry)) (now (next .entry)) (now (kinds .entry)) low width (now (placed .entry))
+        (now (moved .entry)) (now (order .entry)) (now (list .entry)) w x rest items pairs
+        → Came g items (afterPreceding g x rest items pairs (precedingOf g items pairs x)) width (now (placed .exit)) (now (moved .exit))
+        (now (order .exit)) (now (list .exit)) r) ⌝ }
+{
+    let p = preceding(placed, moved, width, low, x);
+    if p == x {
+        place(placed, order, w.placed, x);
+        return Outcome::Placed(ItemWalk {
+            end: w.end - 1,
+            placed: w.placed + 1,
+        });
+    }
+    note(moved, width, x, p);
+    put_preceding(from, heads, next, kinds, placed, list, w, x, p)
+}
+
+// Steps 2 to 5 for the front item x, which is not placed.
+fn visit_unplaced(
+    to: &[u16],
+    heads_out: &[u16],
+    next_out: &[u16],
+    from: &[u16],
+    heads_in: &[u16],
+    next_in: &[u16],
+    paths: &[u64],
+    weak: &[u64],
+    kinds: &[u8],
+    low: &[u16],
+    high: &[u16],
+    width: usize,
+    placed: &mut [u64],
+    moved: &mut [u64],
+    open: &mut [u16],
+    order: &mut [u16],
+    list: &mut [u16],
+    w: ItemWalk,
+    x: u16,
+) -> Outcome
+    requires { ⌜ ((g : Group) × (rest : List ℕ) × (items : List ℕ) × (pairs : List (ℕ × ℕ)) × (elem x items ≡ false)
+        × Walking g (now to) (now «heads_out») (now «next_out») (now from) (now «heads_in») (now «next_in») (now paths) (now weak) (now kinds) (now low)
+        (now high) width (now placed) (now moved) (now «open») (now order) (now list) w (itemState (x ∷ rest) items pairs)) ⌝ }
+    ensures { λ r. ⌜ ((g : Group) (rest items : List ℕ) (pairs : List (ℕ × ℕ)) → elem x items ≡ false
+        → Walking g (now (to .entry)) (now («heads_out» .entry)) (now («next_out» .entry)) (now (from .entry)) (now («heads_in» .entry))
+        (now («next_in» .entry)) (now (paths .entry)) (now (weak .entry)) (now (kinds .entry)) (now (low .entry)) (now (high .entry)) width
+        (now (placed .entry)) (now (moved .entry)) (now («open» .entry)) (now (order .entry)) (now (list .entry)) w (itemState (x ∷ rest) items pairs)
+        → Came g items (visitItem g (itemState (x ∷ rest) items pairs)) width (now (placed .exit)) (now (moved .exit)) (now (order .exit))
+        (now (list .exit)) r) ⌝ }
+{
+    let n = find_open(
+        to,
+        heads_out,
+        next_out,
+        paths,
+        weak,
+        kinds,
+        low,
+        high,
+        width,
+        placed,
+        moved,
+        open,
+        x,
+    );
+    if 0 < n {
+        return put_open(list, open, n, w);
+    }
+    let at = x as usize;
+    if kinds[at] == 4 {
+        return place_injected(from, heads_in, next_in, kinds, placed, order, list, w, x);
+    }
+    visit_uninjected(
+        from,
+        heads_in,
+        next_in,
+        kinds,
+        low[at],
+        width,
+        placed,
+        moved,
+        order,
+        list,
+        w,
+        x,
+    )
+}
+
+// One visit. `list` holds w.end entries, at least one. What `open` holds at exit is left free.
+pub fn visit(
+    to: &[u16],
+    heads_out: &[u16],
+    next_out: &[u16],
+    from: &[u16],
+    heads_in: &[u16],
+    next_in: &[u16],
+    paths: &[u64],
+    weak: &[u64],
+    kinds: &[u8],
+    low: &[u16],
+    high: &[u16],
+    width: usize,
+    placed: &mut [u64],
+    moved: &mut [u64],
+    open: &mut [u16],
+    order: &mut [u16],
+    list: &mut [u16],
+    w: ItemWalk,
+) -> Outcome
+    requires { ⌜ 0 < w .end ⌝ }
+    requires { ⌜ ((g : Group) × (s : ItemState)
+        × Walking g (now to) (now «heads_out») (now «next_out») (now from) (now «heads_in») (now «next_in») (now paths) (now weak) (now kinds) (now low)
+        (now high) width (now placed) (now moved) (now «open») (now order) (now list) w s) ⌝ }
+    ensures { λ r. ⌜ ((g : Group) (s : ItemState)
+        → Walking g (now (to .entry)) (now («heads_out» .entry)) (now («next_out» .entry)) (now (from .entry)) (now («heads_in» .entry))
+        (now («next_in» .entry)) (now (paths .entry)) (now (weak .entry)) (now (kinds .entry)) (now (low .entry)) (now (high .entry)) width
+        (now (placed .entry)) (now (moved .entry)) (now («open» .entry)) (now (order .entry)) (now (list .entry)) w s
+        → Came g (placedOf s) (visitItem g s) width (now (placed .exit)) (now (moved .exit)) (now (order .exit)) (now (list .exit)) r) ⌝ }
+{
+    let top = w.end - 1;
+    let x = list[top];
+    if bits::row_has(placed, x as usize) {
+        return Outcome::WentOn(ItemWalk {
+            end: top,
+            placed: w.placed,
+        });
+    }
+    visit_unplaced(
+        to,
+        heads_out,
+        next_out,
+        from,
+        heads_in,
+        next_in,
+        paths,
+        weak,
+        kinds,
+        low,
+        high,
+        width,
+        placed,
+        moved,
+        open,
+        order,
+        list,
+        w,
+        x,
+    )
+}
+
+// Visits until all n items are placed, the allowance is spent or the list is full; `already` visits have been made.
+pub fn run(
+    to: &[u16],
+    heads_out: &[u16],
+    next_out: &[u16],
+    from: &[u16],
+    heads_in: &[u16],
+    next_in: &[u16],
+    paths: &[u64],
+    weak: &[u64],
+    kinds: &[u8],
+    low: &[u16],
+    high: &[u16],
+    width: usize,
+    placed: &mut [u64],
+    moved: &mut [u64],
+    open: &mut [u16],
+    order: &mut [u16],
+    list: &mut [u16],
+    n: usize,
+    start: ItemWalk,
+    allowance: u32,
+    already: u32,
+) -> Ending
+    requires { ⌜ already ≤ allowance ⌝ }
+    requires { ⌜ ((g : Group) × (s : ItemState) × (n ≡ size g)
+        × Walking g (now to) (now «heads_out») (now «next_out») (now from) (now «heads_in») (now «next_in») (now paths) (now weak) (now kinds) (now low)
+        (now high) width (now placed) (now moved) (now «open») (now order) (now list) start s) ⌝ }
+    ensures { λ r. ⌜ ((g : Group) (s : ItemState) → n ≡ size g
+        → Walking g (now (to .entry)) (now («heads_out» .entry)) (now («next_out» .entry)) (now (from .entry)) (now («heads_in» .entry))
+        (now («next_in» .entry)) (now (paths .entry)) (now (weak .entry)) (now (kinds .entry)) (now (low .entry)) (now (high .entry)) width
+        (now (placed .entry)) (now (moved .entry)) (now («open» .entry)) (now (order .entry)) (now (list .entry)) start s
+        → Ended (runs (itemWalk g) itemListLimit (allowance - already) already s) n (now (order .exit)) r) ⌝ }
+{
+    let mut w = start;
+    let mut made = already;
+    loop {
+        if w.placed == n {
+            return Ending::Finished(made);
+        }
+        if made == allowance {
+            return Ending::Spent(made);
+        }
+        made += 1;
+        let o = visit(
+            to,
+            heads_out,
+            next_out,
+            from,
+            heads_in,
+            next_in,
+            paths,
+            weak,
+            kinds,
+            low,
+            high,
+            width,
+            placed,
+            moved,
+            open,
+            order,
+            list,
+            w,
+        );
+        let Outcome::WentOn(after) = o else {
+            let Outcome::Placed(after) = o else {
+                return Ending::Full(made);
+            };
+            w = after;
+            continue;
+        };
+        w = after;
+    }
+}
