@@ -42,7 +42,7 @@ impl ModuleWalk {
     // The most entries that a visit may leave.
     pub const LIST: usize = 1024;
 
-    // The state before the first visit: the list is the entry, then 0 to modules - 1.
+    // The state before the first visit: the list is the entry, then 0 to modules - 1. What the array holds beyond is left free.
     pub fn new(list: &mut [u8], modules: u8, entry: ModuleId) -> Self
         requires { ⌜ modules < length (now list) ⌝ }
         ensures { λ r. ⌜ Started modules (entry .0) (now (list .exit)) r ⌝ }

@@ -1,6 +1,6 @@
 // Runs the calls that stand on standard input, a line each, and prints what they answer. A line that starts with '#' is copied. A call is the
-// word `groups` or `order`, the length of the reply, the allowance and the project's bytes, all in base 16. The reply starts as bytes of 170; it is
-// printed whole behind the five numbers.
+// word `groups`, the length of the reply, the allowance and the project's bytes, all in base 16. The reply starts as bytes of 170; it is printed
+// whole behind the five numbers. Any other line is copied behind a question mark, and no call is made.
 mod text;
 
 use libc::STDIN_FILENO;
@@ -91,16 +91,23 @@ fn run_call(line: &[u8], project: &mut [u8], reply: &mut [u8]) {
     groups(&project[..n], &mut reply[..k], allowance.value as u32);
 }
 
-// Copies a remark, or makes a call.
+fn print_line(line: &[u8]) {
+    io::write_all(STDOUT_FILENO, line);
+    io::write_all(STDOUT_FILENO, b"\n");
+}
+
+// Copies a remark, makes a call, or marks what is neither.
 fn run_line(line: &[u8], project: &mut [u8], reply: &mut [u8]) {
     if line.len() == 0 {
         return;
     }
-    if line[0] == b'#' {
-        io::write_all(STDOUT_FILENO, line);
-        io::write_all(STDOUT_FILENO, b"\n");
-    } else {
-        run_call(line, project, reply);
+    match line[0] {
+        b'#' => print_line(line),
+        b'g' => run_call(line, project, reply),
+        _ => {
+            io::write_all(STDOUT_FILENO, b"? ");
+            print_line(line);
+        }
     }
 }
 

@@ -1,4 +1,4 @@
-// The calls: groups and order.
+// The groups call.
 use chunk::walk;
 use chunk::walk::Ending;
 use project::Layout;
