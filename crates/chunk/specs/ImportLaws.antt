@@ -11,7 +11,7 @@ use Rattle.rules.specs.Lists.{consIf, keep, elem}
 use Rattle.rules.specs.Project.{Project, importLimit, moduleLimit}
 use Rattle.rules.specs.Modules.{importsOf, isDone, undoneImports, outsideImports}
 use Rattle.laws.specs.Lists.{_∈_, ∈-self, Tested, holds, fails, tested, length-parts}
-use Rattle.laws.specs.Counting.{Below, flatMap-length}
+use Rattle.laws.specs.Counting.{Below, flatMap-length, keep-same}
 use Rattle.laws.specs.Orders.{getD-∈}
 use Rattle.lists.specs.Bits.{bit}
 use Rattle.lists.specs.BitLaws.{bit-zero}
@@ -94,11 +94,6 @@ module _ (to heads next : List ℕ) (done circle : ℕ) (members : List ℕ) whe
 
 -- Laws on lists.
 module _ {A : Type 0} where
-  pub keep-same : (f g : A → Bool) (l : List A) → ((x : A) → x ∈ l → f x ≡ g x) → keep f l ≡ keep g l
-  unfolding keep
-  keep-same f g [] same = refl
-  keep-same f g (x ∷ l) same = rw (same x ∈-self, keep-same f g l (λ y m. same y (List·Memᴰ·tail m)))
-
   pub keep-keep : (f g : A → Bool) (l : List A) → keep f (keep g l) ≡ keep (λ x. g x && f x) l
   unfolding keep consIf
   keep-keep f g [] = refl

@@ -34,14 +34,6 @@ different-more graph n =
     ∙ ap differentPairs (map-append ends (reverse graph) (n ∷ []))
     ∙ addPairs-snoc [] (map ends (reverse graph)) (ends n)
 
-different-most : (graph : List Need) → length (differentPairs (map ends (reverse graph))) ≤ length graph
-unfolding differentPairs addPairs
-different-most [] = omega arith
-different-most (n ∷ graph) =
-    let more : length (differentPairs (map ends (reverse (n ∷ graph)))) ≡ length (addPair (differentPairs (map ends (reverse graph))) (ends n)) =
-    ap (λ (l : List Pair). length l) (different-more graph n) in
-    omega (arith, different-most graph, length-addPair (differentPairs (map ends (reverse graph))) (ends n))
-
 -- The weight of a pair is that of the last need.
 weight-new : (graph : List Need) (n : Need) (a b : ℕ) → isNeed a b n ≡ true → weightIn (n ∷ graph) a b ≡ n .weight
 unfolding weightIn
@@ -118,27 +110,6 @@ all-cleared {words} {n} {m} space seen weak reach paths =
       paths-whole = paths;
     }
 
--- Where the arrays show a graph, there are no more pairs than needs, and what adding a need asks for is there.
-module _ {words n : ℕ} {graph : List Need} {m : Matrices} {from to : List ℕ} {count : ℕ} (s : Shows words n graph m from to count) where
-  pub shows-count : count ≤ length graph
-  shows-count = omega (arith, s .counted, ap (λ (l : List Pair). length l) (s .pairs), different-most graph)
-
-  pub edge-room : (x y : ℕ) → x < n → y < n → length graph < length from → length graph < length to → EdgeRoom words n x y m from to count
-  edge-room x y first second from-room to-room =
-      record {
-        space = s .space;
-        pairs =
-            record {
-              seen-room = place (s .space .seen-rows) x y first (column (s .space .seen-rows) second) .within;
-              seen-most = s .space .seen-most;
-              seen-pair = s .seen-pairs x y first (column (s .space .seen-rows) second);
-              from-room = omega (arith, shows-count);
-              to-room = omega (arith, shows-count);
-            };
-        first = first;
-        second = second;
-      }
-
 -- Adding a need: each array as its own function leaves it.
 module _ {words n x y : ℕ} (weight : ℕ) {m m′ : Matrices} {from to from′ to′ : List ℕ} {count count′ : ℕ} (room : EdgeRoom words n x y m from to count)
     (space : Space words n m′) (added : Added (64 * words) x y (m .seen) from to count (m′ .seen) from′ to′ count′)
@@ -183,4 +154,34 @@ module _ {words n x y : ℕ} (weight : ℕ) {m m′ : Matrices} {from to from′
         weak-rest = weights-rest words n x y weight (room .first) within weak;
         reach-rest = reach .rest;
         paths-rest = paths .rest;
+      }
+
+-- There are no more different pairs than needs.
+different-most : (graph : List Need) → length (differentPairs (map ends (reverse graph))) ≤ length graph
+unfolding differentPairs addPairs
+different-most [] = omega arith
+different-most (n ∷ graph) =
+    let more : length (differentPairs (map ends (reverse (n ∷ graph)))) ≡ length (addPair (differentPairs (map ends (reverse graph))) (ends n)) =
+    ap (λ (l : List Pair). length l) (different-more graph n) in
+    omega (arith, different-most graph, length-addPair (differentPairs (map ends (reverse graph))) (ends n))
+
+-- So where the arrays show a graph, there is room for a need while the arrays of pairs are longer than the graph.
+module _ {words n : ℕ} {graph : List Need} {m : Matrices} {from to : List ℕ} {count : ℕ} (s : Shows words n graph m from to count) where
+  pub shows-count : count ≤ length graph
+  shows-count = omega (arith, s .counted, ap (λ (l : List Pair). length l) (s .pairs), different-most graph)
+
+  pub edge-room : (x y : ℕ) → x < n → y < n → length graph < length from → length graph < length to → EdgeRoom words n x y m from to count
+  edge-room x y first second from-room to-room =
+      record {
+        space = s .space;
+        pairs =
+            record {
+              seen-room = place (s .space .seen-rows) x y first (column (s .space .seen-rows) second) .within;
+              seen-most = s .space .seen-most;
+              seen-pair = s .seen-pairs x y first (column (s .space .seen-rows) second);
+              from-room = omega (arith, shows-count);
+              to-room = omega (arith, shows-count);
+            };
+        first = first;
+        second = second;
       }

@@ -9,7 +9,7 @@ use lib.Dec.{eqb}
 use borrow.Author.Tests.{eqb-true, eqb-false, eq-eqb, ne-eqb}
 use Rattle.rules.specs.Project.{Need, needRow}
 use Rattle.rules.specs.Paths.{canReach, enters, inPaths}
-use Rattle.laws.specs.Lists.{Tested, holds, fails, tested, both, either}
+use Rattle.laws.specs.Lists.{Tested, holds, fails, tested, both, either, eqb-sym}
 use Rattle.laws.specs.PathLaws.{reaches-join, canReach-sound, canReach-complete}
 use Rattle.lists.specs.Bits.{bitAt, Inserted, Removed}
 use Rattle.graph.specs.Rows.{cell, RowJoined, RowsJoined}
@@ -17,13 +17,6 @@ use Rattle.graph.specs.RowLaws.{column, row-within, rows-more, row-same,
 use Rattle.graph.specs.Reach.{joins, entersOwn, entersOthers, ReachAdded, PathsAdded, ReachRoom, PathsRoom, PathsRowRoom}
 
 -- Tests.
-eqb-sym : (a b : ℕ) → eqb a b ≡ eqb b a
-eqb-sym a b = go (tested (eqb a b))
-  where
-    go : Tested (eqb a b) → eqb a b ≡ eqb b a
-    go (holds e) = e ∙ sym (eq-eqb b a (sym (eqb-true a b e)))
-    go (fails e) = e ∙ sym (ne-eqb b a (λ h. eqb-false a b e (sym h)))
-
 or-within : (p q : Bool) → (q ≡ true → p ≡ true) → (p || q) ≡ p
 or-within true q f = refl
 or-within false true f = sym (f refl)
@@ -47,16 +40,16 @@ reached-already graph x y weight e a b =
         let r = both {a = eqb a x || canReach graph a x} h in
         ⊎-elim (λ s. rw (eqb-true y b s) at (to-y (r .0))) (λ s. canReach-trans graph a y b (to-y (r .0)) s) (either {a = eqb y b} (r .1))
 
--- The row of an item joined, where it is x or reaches it.
+-- The row of an item joined, where it is x or reaches it. Here and below `t` is what a call answered.
 module _ (words a x : ℕ) (row old : List ℕ) where
-  pub join-there : {new : List ℕ} → (eqb a x || cell words old a x) ≡ true → RowJoined words a (bitAt row) old new
+  pub join-there : {t : Bool} {new : List ℕ} → t ≡ (eqb a x || cell words old a x) → t ≡ true → RowJoined words a (bitAt row) old new
       → RowJoined words a (joins (cell words old) x (bitAt row) a) old new
   unfolding joins
-  join-there e j = row-same (joins (cell words old) x (bitAt row) a) (λ b h. rw e) j
+  join-there e s j = row-same (joins (cell words old) x (bitAt row) a) (λ b h. rw (sym e ∙ s)) j
 
-  pub join-not : (eqb a x || cell words old a x) ≡ false → RowJoined words a (joins (cell words old) x (bitAt row) a) old old
+  pub join-not : {t : Bool} → t ≡ (eqb a x || cell words old a x) → t ≡ false → RowJoined words a (joins (cell words old) x (bitAt row) a) old old
   unfolding joins
-  join-not e = row-left words a old (λ b. rw e)
+  join-not e s = row-left words a old (λ b. rw (sym e ∙ s))
 
 -- One row more. Whether it is joined depends on that row alone, which is as it was.
 pub join-turn : {words i : ℕ} (x : ℕ) (row : List ℕ) {old now new : List ℕ} → x < 64 * words
@@ -68,12 +61,12 @@ join-turn {words} {i} x row {old} {now} within j k =
 
 -- Adding the need x to y to what each of n items reaches: nothing where x reaches y, else the rows are joined with y and what y reaches.
 module _ {words n x y : ℕ} {old : List ℕ} (r : ReachRoom words n x y old) where
-  pub reach-old : cell words old x y ≡ true → ReachAdded words n x y old old
-  reach-old e =
+  pub reach-old : {t : Bool} → t ≡ cell words old x y → t ≡ true → ReachAdded words n x y old old
+  reach-old e s =
       record {
         shows =
             λ graph weight h a b below within.
-            h a b below within ∙ sym (reached-already graph x y weight (sym (h x y (r .first) (column (r .rows) (r .second))) ∙ e) a b);
+            h a b below within ∙ sym (reached-already graph x y weight (sym (e ∙ h x y (r .first) (column (r .rows) (r .second))) ∙ s) a b);
         rest = λ a b below within. refl;
       }
 
@@ -106,20 +99,20 @@ enter-own {words} {x} {y} reach {copied} bits r i j =
 
 -- y entered into the row of an item other than y that is x or reaches it.
 module _ (words z x y : ℕ) (reach old : List ℕ) where
-  pub enter-there : {new : List ℕ} → (z ≡ y → ⊥) → (eqb z x || cell words reach z x) ≡ true → y < 64 * words
+  pub enter-there : {t : Bool} {new : List ℕ} → (z ≡ y → ⊥) → t ≡ (eqb z x || cell words reach z x) → t ≡ true → y < 64 * words
       → Inserted (z * (64 * words) + y) old new → RowJoined words z (entersOthers (cell words reach) x y z) old new
   unfolding entersOthers
-  enter-there apart e column i =
+  enter-there apart e s column i =
       row-same (entersOthers (cell words reach) x y z)
-      (λ b h. rw (ne-eqb z y apart, e) (sym (and-true (eqb b y && true) ∙ and-true (eqb b y)))) (row-one words z y column i)
+      (λ b h. rw (ne-eqb z y apart, sym e ∙ s) (sym (and-true (eqb b y && true) ∙ and-true (eqb b y)))) (row-one words z y column i)
 
   pub enter-itself : z ≡ y → RowJoined words z (entersOthers (cell words reach) x y z) old old
   unfolding entersOthers
   enter-itself e = row-left words z old (λ b. rw (eq-eqb z y e, and-false))
 
-  pub enter-not : (eqb z x || cell words reach z x) ≡ false → RowJoined words z (entersOthers (cell words reach) x y z) old old
+  pub enter-not : {t : Bool} → t ≡ (eqb z x || cell words reach z x) → t ≡ false → RowJoined words z (entersOthers (cell words reach) x y z) old old
   unfolding entersOthers
-  enter-not e = row-left words z old (λ b. rw (e, and-false))
+  enter-not e s = row-left words z old (λ b. rw (sym e ∙ s, and-false))
 
 pub paths-row-room : {words n x y : ℕ} {reach paths : List ℕ} → PathsRoom words n x y reach paths → PathsRowRoom words x y reach paths
 paths-row-room {words} {n} {x} {y} e =
@@ -133,20 +126,20 @@ paths-row-room {words} {n} {x} {y} e =
 
 -- Entering the need x to y into the record of paths: nothing where P(x) holds y, else both parts of `enters`.
 module _ {words n x y : ℕ} {reach old : List ℕ} (r : PathsRoom words n x y reach old) where
-  pub paths-old : cell words old x y ≡ true → PathsAdded words n x y reach old old
+  pub paths-old : {t : Bool} → t ≡ cell words old x y → t ≡ true → PathsAdded words n x y reach old old
   unfolding inPaths
-  paths-old e =
+  paths-old e s =
       record {
         shows =
             λ graph weight g h a b below within.
-            h a b below within ∙ sym (rw (sym (h x y (r .first) (column (r .paths-rows) (r .second))) ∙ e) (or-false (inPaths graph a b)));
+            h a b below within ∙ sym (rw (sym (e ∙ h x y (r .first) (column (r .paths-rows) (r .second))) ∙ s) (or-false (inPaths graph a b)));
         rest = λ a b below within. refl;
       }
 
-  pub paths-new : {now new : List ℕ} → cell words old x y ≡ false → RowJoined words x (entersOwn (cell words reach) x y) old now
+  pub paths-new : {t : Bool} {now new : List ℕ} → t ≡ cell words old x y → t ≡ false → RowJoined words x (entersOwn (cell words reach) x y) old now
       → RowsJoined words n (entersOthers (cell words reach) x y) now new → PathsAdded words n x y reach old new
   unfolding inPaths enters entersOwn entersOthers
-  paths-new {now} {new} e j k =
+  paths-new {now = now} e s j k =
       record {
         shows =
             λ graph weight g h a b below within.
@@ -156,7 +149,7 @@ module _ {words n x y : ℕ} {reach old : List ℕ} (r : PathsRoom words n x y r
             ∙ ap₂ _||_ (h a b below within) (ap (λ (t : Bool). eqb a x && (eqb b y || (t && not (eqb b x)))) (g y b (r .second) within)) in
             k .rows a b below within
             ∙ ap₂ _||_ own (ap (λ (t : Bool). eqb b y && not (eqb a y) && (eqb a x || t)) (g a x below (column (r .reach-rows) (r .first))))
-            ∙ rw (sym (h x y (r .first) (column (r .paths-rows) (r .second))) ∙ e)
+            ∙ rw (sym (e ∙ h x y (r .first) (column (r .paths-rows) (r .second))) ∙ s)
             (or-assoc (inPaths graph a b) (eqb a x && entersOwn reaches x y b) (entersOthers reaches x y a b));
         rest =
             λ a b below within.

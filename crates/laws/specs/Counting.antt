@@ -97,3 +97,8 @@ module _ {A : Type 0} where
   unfolding keep consIf
   keep-all test [] f = refl
   keep-all test (x ∷ l) f = rw (f x ∈-self, keep-all test l (λ y m. f y (List·Memᴰ·tail m)))
+
+  pub keep-same : (f g : A → Bool) (l : List A) → ((x : A) → x ∈ l → f x ≡ g x) → keep f l ≡ keep g l
+  unfolding keep
+  keep-same f g [] same = refl
+  keep-same f g (x ∷ l) same = rw (same x ∈-self, keep-same f g l (λ y m. same y (List·Memᴰ·tail m)))

@@ -94,7 +94,7 @@ module _ (p : Project) where
   total-ranges s [] = refl
   total-ranges s (m ∷ modules) = simp length-append (rw (total-ranges (s + length (uninjectedRows p m)) modules))
 
-  length-ranges : (s : ℕ) (modules : List ℕ) → length (rangesFrom p s modules) ≡ length modules
+  pub length-ranges : (s : ℕ) (modules : List ℕ) → length (rangesFrom p s modules) ≡ length modules
   unfolding rangesFrom
   length-ranges s [] = refl
   length-ranges s (m ∷ modules) = ap suc (length-ranges (s + length (uninjectedRows p m)) modules)

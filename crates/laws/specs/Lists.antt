@@ -7,7 +7,7 @@ use mathlib.Core.Bool.{Bool, true, false, not, _&&_, _||_}
 use mathlib.Core.List.{List, [], _∷_, _++_, reverse, reverse-cons, List·Memᴰ, List·Memᴰ·head, List·Memᴰ·tail, List·Memᴰ·cases-cons, List·Memᴰ·append-cases, Memᴰ·append-left, Memᴰ·append-right, List·Memᴰ·not-nil}
 use lib.Dec.{eqb}
 use lib.ListN.{length}
-use borrow.Author.Tests.{eqb-true, eqb-false, eq-eqb}
+use borrow.Author.Tests.{eqb-true, eqb-false, eq-eqb, ne-eqb}
 use Rattle.rules.specs.Lists.{isEmpty, consIf, keep, any, all, upFrom, elem, appendNew, different}
 
 -- `x ∈ l`: the list holds x
@@ -43,6 +43,13 @@ pub data Tested (b : Bool) : Type 0 where
 pub tested : (b : Bool) → Tested b
 tested true = holds refl
 tested false = fails refl
+
+pub eqb-sym : (a b : ℕ) → eqb a b ≡ eqb b a
+eqb-sym a b = go (tested (eqb a b))
+  where
+    go : Tested (eqb a b) → eqb a b ≡ eqb b a
+    go (holds e) = e ∙ sym (eq-eqb b a (sym (eqb-true a b e)))
+    go (fails e) = e ∙ sym (ne-eqb b a (λ h. eqb-false a b e (sym h)))
 
 -- Membership, as a type and as a test.
 pub elem-true : {x : ℕ} (l : List ℕ) → elem x l ≡ true → x ∈ l

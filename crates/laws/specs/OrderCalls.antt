@@ -76,7 +76,7 @@ module _ (p : Project) (earlier : List (List ℕ)) (group : List ℕ) where
   abbrev gives : ℕ → Bool
   gives m = not (isDone earlier m) && not (isEmpty (keptRowsOf p m))
 
-  given-belongs : {row : ℕ} → row ∈ givenRows p givers → BelongsTo p earlier group row
+  pub given-belongs : {row : ℕ} → row ∈ givenRows p givers → BelongsTo p earlier group row
   unfolding givingModules
   given-belongs {row} h =
       let r = givenRows-∈ p (givingModules p earlier group) h in

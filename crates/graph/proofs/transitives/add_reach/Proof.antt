@@ -1,6 +1,5 @@
 -- `graph::transitives::add_reach` meets its contract: where x reaches y already, nothing is to be added. Assumes nothing.
 use native.Mathlib.Omega.{arith}
-use mathlib.Core.Path.{sym, _∙_}
 use borrow.Author.Needs.{needs}
 use Rattle.graph.specs.RowLaws.{column, row-within, place, row-copied}
 use Rattle.graph.specs.ReachLaws.{reach-old, reach-new}
@@ -18,7 +17,7 @@ same-length c = search needs
 
 returns : tie.Need-returns
 returns c =
-    reach-old (c .before .before .before .before .pre) (sym (c .before .holds .ensures) ∙ c .if1 .taken)
+    reach-old (c .before .before .before .before .pre) (c .before .holds .ensures) (c .if1 .taken)
 
 slice-aggregate-copy-row : tie.Need-slice-aggregate-copy-row
 slice-aggregate-copy-row c = search needs

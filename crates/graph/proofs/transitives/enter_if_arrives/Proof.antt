@@ -1,5 +1,4 @@
 -- `graph::transitives::enter_if_arrives` meets its contract. Assumes nothing.
-use mathlib.Core.Path.{sym, _∙_}
 use borrow.Author.Needs.{needs}
 use Rattle.graph.specs.ReachLaws.{enter-there, enter-itself, enter-not}
 use Rattle.graph.proofs.transitives.enter_if_arrives.Statement.{statement}
@@ -32,12 +31,12 @@ returns-2 c =
     let apart = found .before .before in
     let a = apart .before .before .before .args in
     enter-there (a .words) (a .z) (a .x) (a .y) (a .reach .now) (a .paths .now) (apart .if1 .left)
-    (sym (found .before .arrives .ensures) ∙ found .if2 .taken) (search needs) (c .before .before .row-insert .ensures)
+    (found .before .arrives .ensures) (found .if2 .taken) (search needs) (c .before .before .row-insert .ensures)
 
 returns-3 : tie.Need-returns-3
 returns-3 c =
     let a = c .before .before .before .before .before .args in
-    enter-not (a .words) (a .z) (a .x) (a .y) (a .reach .now) (a .paths .now) (sym (c .before .arrives .ensures) ∙ c .if2 .left)
+    enter-not (a .words) (a .z) (a .x) (a .y) (a .reach .now) (a .paths .now) (c .before .arrives .ensures) (c .if2 .left)
 
 pub enter-if-arrives-spec : {M : Type 1} → statement M
 enter-if-arrives-spec =

@@ -1,5 +1,4 @@
 -- `graph::transitives::insert_transitives` meets its contract. Assumes nothing.
-use mathlib.Core.Path.{sym, _∙_}
 use borrow.Author.Needs.{needs}
 use Rattle.graph.specs.RowLaws.{column, place}
 use Rattle.graph.specs.ReachLaws.{paths-row-room, paths-old, paths-new}
@@ -17,7 +16,7 @@ same-length c = search needs
 
 returns : tie.Need-returns
 returns c =
-    paths-old (c .before .before .before .before .before .pre) (sym (c .before .holds .ensures) ∙ c .if1 .taken)
+    paths-old (c .before .before .before .before .before .pre) (c .before .holds .ensures) (c .if1 .taken)
 
 enter-reached-requires : tie.Need-enter-reached-requires
 enter-reached-requires c κs = paths-row-room (c .before .before .before .before .before .before .pre)
@@ -34,7 +33,7 @@ returns-2 c =
     let own = entered .before .before .before .before in
     let none = own .before .before in
     let start = none .before .before .before .before .before in
-    paths-new (start .pre) (sym (none .before .holds .ensures) ∙ none .if1 .left) (own .enter-reached .ensures) (entered .enter-reaching .ensures)
+    paths-new (start .pre) (none .before .holds .ensures) (none .if1 .left) (own .enter-reached .ensures) (entered .enter-reaching .ensures)
 
 pub insert-transitives-spec : {M : Type 1} → statement M
 insert-transitives-spec =

@@ -1,5 +1,4 @@
 -- `graph::transitives::join_if_arrives` meets its contract. Assumes nothing.
-use mathlib.Core.Path.{sym, _∙_}
 use borrow.Author.Needs.{needs}
 use Rattle.graph.specs.ReachLaws.{join-there, join-not}
 use Rattle.graph.proofs.transitives.join_if_arrives.Statement.{statement}
@@ -18,7 +17,7 @@ returns : tie.Need-returns
 returns c =
     let a = c .before .before .before .before .before .before .before .before .before .args in
     let found = c .before .before .before .before in
-    join-there (a .words) (a .a) (a .x) (a .row .now) (a .reach .now) (sym (found .before .arrives .ensures) ∙ found .if1 .taken)
+    join-there (a .words) (a .a) (a .x) (a .row .now) (a .reach .now) (found .before .arrives .ensures) (found .if1 .taken)
     (c .before .before .join-row .ensures)
 
 same-length-2 : tie.Need-same-length-2
@@ -27,7 +26,7 @@ same-length-2 c = search needs
 returns-2 : tie.Need-returns-2
 returns-2 c =
     let a = c .before .before .before .before .before .args in
-    join-not (a .words) (a .a) (a .x) (a .row .now) (a .reach .now) (sym (c .before .arrives .ensures) ∙ c .if1 .left)
+    join-not (a .words) (a .a) (a .x) (a .row .now) (a .reach .now) (c .before .arrives .ensures) (c .if1 .left)
 
 pub join-if-arrives-spec : {M : Type 1} → statement M
 join-if-arrives-spec =
