@@ -69,8 +69,8 @@ module _ {g : Group} {s : ItemState} (i : Walked g s) where
       (placed-count
       (λ x h. ⊎-elim (λ m. m) (λ m. absurd (List·Memᴰ·not-nil (subst (λ (l : List ℕ). x ∈ l) e m))) (i .unplaced-listed x h)))
 
-module _ {g : Group} {to heads-out next-out from heads-in next-in paths weak kinds low high : List ℕ} {width : ℕ} {placed moved «open» order list : List ℕ} {w : ItemWalk} {s : ItemState}
-    (h : Walking g to heads-out next-out from heads-in next-in paths weak kinds low high width placed moved «open» order list w s) where
+module _ {g : Group} {to heads-out next-out from heads-in next-in paths weak kinds low high : List ℕ} {width : ℕ}
+    {placed moved «open» order list : List ℕ} {w : ItemWalk} {s : ItemState} (h : Walking g to heads-out next-out from heads-in next-in paths weak kinds low high width placed moved «open» order list w s) where
   items-count : length (placedOf s) ≡ w .placed
   items-count = sym (ap length (h .shows .items .shown)) ∙ stack-length order (w .placed)
 
@@ -105,13 +105,15 @@ module _ {g : Group} {before : List ℕ} {t : ItemState} {width : ℕ} {placed m
       go : Came g before t width placed moved order list (Placed w) → Shows g width placed moved order list w t
       go (placed-one e h) = h
 
-pub runs-first : {g : Group} {to heads-out next-out from heads-in next-in paths weak kinds low high : List ℕ} {width : ℕ} {allowance already : ℕ} {first : ItemState} {placed moved «open» order list : List ℕ} {w : ItemWalk}
+pub runs-first : {g : Group} {to heads-out next-out from heads-in next-in paths weak kinds low high : List ℕ} {width : ℕ}
+    {allowance already : ℕ} {first : ItemState} {placed moved «open» order list : List ℕ} {w : ItemWalk}
     → Walking g to heads-out next-out from heads-in next-in paths weak kinds low high width placed moved «open» order list w first
     → Running g to heads-out next-out from heads-in next-in paths weak kinds low high width allowance already first placed moved «open» order list w already
 runs-first {first = first} h = record { state = first; walking = h; same = refl }
 
-module _ {g : Group} {to heads-out next-out from heads-in next-in paths weak kinds low high : List ℕ} {width : ℕ} {allowance already : ℕ} {first : ItemState} {placed moved «open» order list : List ℕ} {w : ItemWalk}
-    {made : ℕ} (r : Running g to heads-out next-out from heads-in next-in paths weak kinds low high width allowance already first placed moved «open» order list w made) where
+module _ {g : Group} {to heads-out next-out from heads-in next-in paths weak kinds low high : List ℕ} {width : ℕ}
+    {allowance already : ℕ} {first : ItemState} {placed moved «open» order list : List ℕ} {w : ItemWalk} {made : ℕ}
+    (r : Running g to heads-out next-out from heads-in next-in paths weak kinds low high width allowance already first placed moved «open» order list w made) where
   abbrev stop : Stop ItemState
   stop = run (itemWalk g) itemListLimit (allowance - already) already first
 
@@ -130,8 +132,11 @@ module _ {g : Group} {to heads-out next-out from heads-in next-in paths weak kin
 
     -- one more visit
     module _ (left : made < allowance) where
-      one-more : run (itemWalk g) itemListLimit (allowance - made) made (r .state) ≡ run (itemWalk g) itemListLimit (suc (allowance - (made + 1))) made (r .state)
-      one-more = let f : allowance - made ≡ suc (allowance - (made + 1)) = omega arith in ap (λ (n : ℕ). run (itemWalk g) itemListLimit n made (r .state)) f
+      one-more : run (itemWalk g) itemListLimit (allowance - made) made (r .state)
+          ≡ run (itemWalk g) itemListLimit (suc (allowance - (made + 1))) made (r .state)
+      one-more =
+          let f : allowance - made ≡ suc (allowance - (made + 1)) = omega arith in
+          ap (λ (n : ℕ). run (itemWalk g) itemListLimit n made (r .state)) f
 
       pub fills : {n : ℕ} (order′ : List ℕ) → itemListLimit < length (itemList (visitItem g (r .state))) → Ended stop n order′ (Full (made + 1))
       fills order′ f =
@@ -142,7 +147,8 @@ module _ {g : Group} {to heads-out next-out from heads-in next-in paths weak kin
 
       pub goes-on : {placed′ moved′ open′ order′ list′ : List ℕ} {w′ : ItemWalk} → length open′ ≡ length «open»
           → Shows g width placed′ moved′ order′ list′ w′ (visitItem g (r .state))
-          → Running g to heads-out next-out from heads-in next-in paths weak kinds low high width allowance already first placed′ moved′ open′ order′ list′ w′ (made + 1)
+          → Running g to heads-out next-out from heads-in next-in paths weak kinds low high width allowance already first
+          placed′ moved′ open′ order′ list′ w′ (made + 1)
       goes-on {list′ = list′} {w′} a f =
           let within : length (itemList (visitItem g (r .state))) ≤ itemListLimit =
           omega (arith, ap length (f .entries .shown), stack-length list′ (w′ .end), f .entries .within) in

@@ -2,7 +2,7 @@
 -- Assumes nothing.
 use Prim.Native.Nat.{ℕ, _+_, _*_, _-_, _≤_, _<_}
 use native.Mathlib.Omega.{arith}
-use mathlib.Core.Path.{_≡_, refl, sym, ap, ap₂, subst, subst⁻¹, _∙_}
+use mathlib.Core.Path.{_≡_, refl, sym, ap, ap₂, subst, _∙_}
 use mathlib.Core.Bool.{Bool, true, false, not, _&&_}
 use mathlib.Core.List.{List, [], _∷_, _++_}
 use lib.Dec.{ltb}
@@ -40,7 +40,8 @@ module _ {g : Group} {width : ℕ} {placed moved order list : List ℕ} {before 
 
 -- What steps 3 to 5 make of the open dependencies that stay.
 module _ (g : Group) (x : ℕ) (list items : List ℕ) {after : List (ℕ × ℕ)} where
-  after-some : (o : Opened) {d : ℕ} {l : List ℕ} → staying g x o ≡ opened (d ∷ l) after → afterOpen g x list items o ≡ itemState (d ∷ l ++ (x ∷ list)) items after
+  after-some : (o : Opened) {d : ℕ} {l : List ℕ} → staying g x o ≡ opened (d ∷ l) after
+      → afterOpen g x list items o ≡ itemState (d ∷ l ++ (x ∷ list)) items after
   unfolding staying afterOpen isEmpty
   after-some (opened dependencies moved) {d} {l} e =
       let stay : keep (λ d. not (isDropped g x d)) dependencies ≡ d ∷ l = cc in
@@ -69,7 +70,8 @@ module _ (g : Group) (x : ℕ) (list items : List ℕ) {after : List (ℕ × ℕ
 -- The visit of an item that is not placed, in front of the list.
 module _ {g : Group} {to heads-out next-out from heads-in next-in paths weak kinds low high : List ℕ} {width : ℕ} {placed moved «open» order list : List ℕ}
     {w : ItemWalk} {x : ℕ} {rest items : List ℕ} {pairs : List (ℕ × ℕ)} (new : elem x items ≡ false)
-    (h : Walking g to heads-out next-out from heads-in next-in paths weak kinds low high width placed moved «open» order list w (itemState (x ∷ rest) items pairs)) where
+    (h : Walking g to heads-out next-out from heads-in next-in paths weak kinds low high width placed moved «open» order list w
+    (itemState (x ∷ rest) items pairs)) where
   abbrev state : ItemState
   state = itemState (x ∷ rest) items pairs
 
@@ -221,25 +223,34 @@ module _ {g : Group} {from heads next kinds : List ℕ} {low width : ℕ} {place
 -- The front of the list, of any state.
 module _ {g : Group} {to heads-out next-out from heads-in next-in paths weak kinds low high : List ℕ} {width : ℕ} {placed moved «open» order list : List ℕ}
     {w : ItemWalk} where
-  pub in-front : (s : ItemState) → Walking g to heads-out next-out from heads-in next-in paths weak kinds low high width placed moved «open» order list w s → 0 < w .end
-      → (rest : List ℕ) × (items : List ℕ) × (pairs : List (ℕ × ℕ)) × Walking g to heads-out next-out from heads-in next-in paths weak kinds low high width placed moved «open» order list w (itemState (getD list (w .end - 1) 0 ∷ rest) items pairs)
+  pub in-front : (s : ItemState) → Walking g to heads-out next-out from heads-in next-in paths weak kinds low high width placed moved «open» order list w s
+      → 0 < w .end
+      → (rest : List ℕ) × (items : List ℕ) × (pairs : List (ℕ × ℕ))
+      × Walking g to heads-out next-out from heads-in next-in paths weak kinds low high width placed moved «open» order list w
+      (itemState (getD list (w .end - 1) 0 ∷ rest) items pairs)
   unfolding itemList
   in-front (itemState [] items pairs) h some = absurd (omega (arith, ap length (h .shows .entries .shown), stack-length list (w .end)))
   in-front (itemState (x ∷ rest) items pairs) h some =
-      (rest, items, pairs, subst⁻¹ (λ (y : ℕ). Walking g to heads-out next-out from heads-in next-in paths weak kinds low high width placed moved «open» order list w (itemState (y ∷ rest) items pairs)) (front-entry (h .shows .entries)) h)
+      let back : getD list (w .end - 1) 0 ≡ x = front-entry (h .shows .entries) in
+      (rest, items, pairs, rw back h)
 
   -- what holds of every state with the entry that was read in front holds of every state
-  pub by-front : {placed′ moved′ order′ list′ : List ℕ} {r : Outcome} (s : ItemState) → Walking g to heads-out next-out from heads-in next-in paths weak kinds low high width placed moved «open» order list w s → 0 < w .end
-      → ((rest items : List ℕ) (pairs : List (ℕ × ℕ)) → Walking g to heads-out next-out from heads-in next-in paths weak kinds low high width placed moved «open» order list w (itemState (getD list (w .end - 1) 0 ∷ rest) items pairs)
+  pub by-front : {placed′ moved′ order′ list′ : List ℕ} {r : Outcome} (s : ItemState)
+      → Walking g to heads-out next-out from heads-in next-in paths weak kinds low high width placed moved «open» order list w s → 0 < w .end
+      → ((rest items : List ℕ) (pairs : List (ℕ × ℕ))
+      → Walking g to heads-out next-out from heads-in next-in paths weak kinds low high width placed moved «open» order list w
+      (itemState (getD list (w .end - 1) 0 ∷ rest) items pairs)
       → Came g items (visitItem g (itemState (getD list (w .end - 1) 0 ∷ rest) items pairs)) width placed′ moved′ order′ list′ r)
       → Came g (placedOf s) (visitItem g s) width placed′ moved′ order′ list′ r
   unfolding itemList placedOf
   by-front (itemState [] items pairs) h some f = absurd (omega (arith, ap length (h .shows .entries .shown), stack-length list (w .end)))
-  by-front {placed′} {moved′} {order′} {list′} {r} (itemState (x ∷ rest) items pairs) h some f =
-      subst (λ (y : ℕ). Walking g to heads-out next-out from heads-in next-in paths weak kinds low high width placed moved «open» order list w (itemState (y ∷ rest) items pairs) → Came g items (visitItem g (itemState (y ∷ rest) items pairs)) width placed′ moved′ order′ list′ r)
-      (front-entry (h .shows .entries)) (f rest items pairs) h
+  by-front (itemState (x ∷ rest) items pairs) h some f =
+      let back : getD list (w .end - 1) 0 ≡ x = front-entry (h .shows .entries) in
+      (rw back at (f rest items pairs)) h
 
-  module _ {x : ℕ} {rest items : List ℕ} {pairs : List (ℕ × ℕ)} (h : Walking g to heads-out next-out from heads-in next-in paths weak kinds low high width placed moved «open» order list w (itemState (x ∷ rest) items pairs)) where
+  module _ {x : ℕ} {rest items : List ℕ} {pairs : List (ℕ × ℕ)}
+      (h : Walking g to heads-out next-out from heads-in next-in paths weak kinds low high width placed moved «open» order list w
+      (itemState (x ∷ rest) items pairs)) where
     pub front-bit : bitAt placed x ≡ elem x items
     unfolding placedOf itemList
     front-bit = h .shows .items .bits .bits x (h .walked .list-below x ∈-self)

@@ -15,7 +15,7 @@ use Rattle.rules.specs.Project.{Need, itemLimit, needLimit}
 use Rattle.rules.specs.Paths.{dependenciesOf, dependantsOf}
 use Rattle.rules.specs.Items.{isInjected, mayDrop, inRange, rangeOf, Group, kindOf, pathHolds, weightOf, sameRange, hasMoved, Opened, opened, withOpen, findOpen, isDropped, waiting, oneByOne, preceding, numbersOf}
 use Rattle.rules.specs.Calls.{itemListLimit}
-use Rattle.laws.specs.Lists.{Tested, holds, fails, tested, _∈_, both, keep-∈, upFrom-∈, length-parts, once-different}
+use Rattle.laws.specs.Lists.{Tested, holds, fails, tested, _∈_, both, keep-∈, upFrom-∈, length-parts, once-different, eqb-sym}
 use Rattle.laws.specs.Splits.{size, WellFormed, inRange-true}
 use Rattle.lists.specs.Bits.{bitAt, Inserted}
 use Rattle.lists.specs.BitLaws.{cell-eqb, cell-below}
@@ -26,7 +26,8 @@ use Rattle.lists.specs.Stacks.{stack}
 use Rattle.lists.specs.StackLaws.{stack-length, stack-push, placed-stack, Placing, placing-start, placing-rest, placing-one, placing-end}
 use Rattle.lists.specs.Pairs.{targets}
 use Rattle.lists.specs.ChainLaws.{left, targets-end, targets-step}
-use Rattle.stmt.specs.Walks.{Table, Chained, staying, Findable, Found, Listed, Pushed, pushed, no-room, Awaited, Ordered, Precedable, First, none, first, RangeIs, Cell, Noted, noted, had-moved, Skippable, Skipped, Testable, stays}
+use Rattle.split.specs.Shown.{RangeIs}
+use Rattle.stmt.specs.Walks.{Table, Chained, staying, Findable, Found, Listed, Pushed, pushed, no-room, Awaited, Ordered, Precedable, First, none, first, Cell, Noted, noted, had-moved, Skippable, Skipped, Testable, stays}
 
 -- Kinds that may drop.
 pub drops-weak : (kind weight : ℕ) → kind ≡ 3 → mayDrop kind weight ≡ eqb weight 1
@@ -52,13 +53,6 @@ cell {n} {width} t a b h k =
     let within : n ≤ itemLimit = omega arith in
     record { within = omega arith; most = omega (arith, mul-le-mul within (t .most)) }
 
-eqb-swap : (a b : ℕ) → eqb a b ≡ eqb b a
-eqb-swap a b = go (tested (eqb b a))
-  where
-    go : Tested (eqb b a) → eqb a b ≡ eqb b a
-    go (holds e) = rw e (eq-eqb a b (sym (eqb-true b a e)))
-    go (fails e) = rw e (ne-eqb a b (λ q. eqb-false b a e (sym q)))
-
 -- A pair noted as moved is one more pair.
 pub moved-more : {n width : ℕ} {words words′ : List ℕ} (pairs : List (ℕ × ℕ)) (x d : ℕ) → x < n → d < n → Table n width words (hasMoved pairs)
     → Inserted (x * width + d) words words′ → Table n width words′ (hasMoved ((x, d) ∷ pairs))
@@ -71,7 +65,7 @@ moved-more {n} {width} pairs x d h k t i =
       bits =
           λ a b f g.
           i .bits (a * width + b)
-          ∙ ap₂ _||_ (cell-eqb width a b x d (omega arith) (omega arith) ∙ ap₂ _&&_ (eqb-swap a x) (eqb-swap b d)) (t .bits a b f g);
+          ∙ ap₂ _||_ (cell-eqb width a b x d (omega arith) (omega arith) ∙ ap₂ _&&_ (eqb-sym a x) (eqb-sym b d)) (t .bits a b f g);
     }
 
 -- Step 2 for one dependency.
@@ -293,7 +287,8 @@ module _ (g : Group) (items : List ℕ) (pairs : List (ℕ × ℕ)) {to heads ne
     pub after : List (ℕ × ℕ)
     pub shown : Table (size g) width moved (hasMoved after)
     pub within : count ≤ length «open»
-    pub same : staying g x (findOpen g items x (dependenciesOf (g .needs) x) pairs) ≡ joined (take count «open») (staying g x (findOpen g items x (from-entry l e) after))
+    pub same : staying g x (findOpen g items x (dependenciesOf (g .needs) x) pairs)
+        ≡ joined (take count «open») (staying g x (findOpen g items x (from-entry l e) after))
 
   pub finding-start : {moved «open» : List ℕ} → x < size g → Table (size g) width moved (hasMoved pairs) → Finding moved «open» 0 (getD heads x 0)
   finding-start h t =
@@ -302,7 +297,10 @@ module _ (g : Group) (items : List ℕ) (pairs : List (ℕ × ℕ)) {to heads ne
         after = pairs;
         shown = t;
         within = omega arith;
-        same = sym (joined-none (staying g x (findOpen g items x (from-entry l (getD heads x 0)) pairs)) ∙ ap (λ (k : List ℕ). staying g x (findOpen g items x k pairs)) (l .along x h));
+        same =
+            sym
+            (joined-none (staying g x (findOpen g items x (from-entry l (getD heads x 0)) pairs))
+            ∙ ap (λ (k : List ℕ). staying g x (findOpen g items x k pairs)) (l .along x h));
       }
 
   module _ {moved «open» : List ℕ} {count e : ℕ} (f : Finding moved «open» count e) (more : 0 < e) {moved′ : List ℕ} {r : Bool}
@@ -374,7 +372,10 @@ module _ (g : Group) (items : List ℕ) (pairs : List (ℕ × ℕ)) {to heads ne
         after = f .after;
         shown = f .shown;
         within = f .within;
-        found = f .same ∙ ap (λ (q : List ℕ). joined (take count «open») (staying g x (findOpen g items x q (f .after)))) (from-end l z) ∙ ap (λ (q : List ℕ). opened q (f .after)) (append-nil (take count «open»));
+        found =
+            f .same
+            ∙ ap (λ (q : List ℕ). joined (take count «open») (staying g x (findOpen g items x q (f .after)))) (from-end l z)
+            ∙ ap (λ (q : List ℕ). opened q (f .after)) (append-nil (take count «open»));
       }
 
 -- Open dependencies put before the front: one turn of the loop, and what it comes to.
@@ -414,7 +415,8 @@ unfolding oneByOne
 oneByOne-length [] list = omega arith
 oneByOne-length (d ∷ l) list = omega (arith, oneByOne-length l (d ∷ list))
 
-listed-push : {list : List ℕ} {end : ℕ} {entries : List ℕ} (x : ℕ) → end < itemListLimit → Listed list end entries → Listed (set list end x) (end + 1) (x ∷ entries)
+listed-push : {list : List ℕ} {end : ℕ} {entries : List ℕ} (x : ℕ) → end < itemListLimit → Listed list end entries
+    → Listed (set list end x) (end + 1) (x ∷ entries)
 listed-push {list} {end} x h l =
     record {
       shown = stack-push list end x (omega (arith, l .size)) ∙ ap (λ (k : List ℕ). x ∷ k) (l .shown);
@@ -423,11 +425,13 @@ listed-push {list} {end} x h l =
     }
 
 -- In the midst of pushing: with the waiting dependants along the rest of the chain pushed the list is as it is to be.
-module _ (g : Group) (items : List ℕ) {from heads next : List ℕ} (l : Chained (dependantsOf (g .needs)) (size g) from heads next) (x : ℕ) (list₀ : List ℕ) (end : ℕ) where
+module _ (g : Group) (items : List ℕ) {from heads next : List ℕ} (l : Chained (dependantsOf (g .needs)) (size g) from heads next)
+    (x : ℕ) (list₀ : List ℕ) (end : ℕ) where
   pub record Pushing (list : List ℕ) (at e : ℕ) : Type 0 where
     pub most : e ≤ l .count
     pub listed : Listed list at (stack list at)
-    pub same : oneByOne (keep (λ d. isInjected (kindOf g d) && not (elem d items)) (from-entry l e)) (stack list at) ≡ oneByOne (waiting g items x) (stack list₀ end)
+    pub same : oneByOne (keep (λ d. isInjected (kindOf g d) && not (elem d items)) (from-entry l e)) (stack list at)
+        ≡ oneByOne (waiting g items x) (stack list₀ end)
 
   pub pushing-start : x < size g → Listed list₀ end (stack list₀ end) → Pushing list₀ end (getD heads x 0)
   unfolding waiting
@@ -440,12 +444,14 @@ module _ (g : Group) (items : List ℕ) {from heads next : List ℕ} (l : Chaine
 
   module _ {list : List ℕ} {at e : ℕ} (p : Pushing list at e) (more : 0 < e) where
     same-turn : {b : Bool} → (isInjected (kindOf g (getD from (e - 1) 0)) && not (elem (getD from (e - 1) 0) items)) ≡ b
-        → oneByOne (consIf b (getD from (e - 1) 0) (keep (λ d. isInjected (kindOf g d) && not (elem d items)) (from-entry l (getD next (e - 1) 0)))) (stack list at)
+        → oneByOne
+        (consIf b (getD from (e - 1) 0) (keep (λ d. isInjected (kindOf g d) && not (elem d items)) (from-entry l (getD next (e - 1) 0)))) (stack list at)
         ≡ oneByOne (waiting g items x) (stack list₀ end)
     unfolding keep
     same-turn t =
         rw (← t)
-        (sym (ap (λ (k : List ℕ). oneByOne (keep (λ d. isInjected (kindOf g d) && not (elem d items)) k) (stack list at)) (from-step l e more (p .most))) ∙ p .same)
+        (sym (ap (λ (k : List ℕ). oneByOne (keep (λ d. isInjected (kindOf g d) && not (elem d items)) k) (stack list at)) (from-step l e more (p .most)))
+        ∙ p .same)
 
     pub pushing-passed : (isInjected (kindOf g (getD from (e - 1) 0)) && not (elem (getD from (e - 1) 0) items)) ≡ false → Pushing list at (getD next (e - 1) 0)
     unfolding consIf
@@ -485,9 +491,12 @@ pub waiting-bit : {g : Group} {items from heads next kinds placed : List ℕ} {x
 waiting-bit a d h = rw (a .kinds-shown .each d h, a .placed-shown .bits d h)
 
 -- The items that precede x, from p on.
-module _ {g : Group} {items : List ℕ} {pairs : List (ℕ × ℕ)} {placed moved : List ℕ} {width low x : ℕ} (s : Precedable g items pairs placed moved width low x) where
+module _ {g : Group} {items : List ℕ} {pairs : List (ℕ × ℕ)} {placed moved : List ℕ} {width low x : ℕ}
+    (s : Precedable g items pairs placed moved width low x) where
   unfoldable pub precedingFrom : ℕ → List ℕ
-  precedingFrom p = keep (λ p. not (elem p items) && ltb p x && not (hasMoved pairs x p)) (upFrom p (rangeOf (g .ranges) x .start + rangeOf (g .ranges) x .count - p))
+  precedingFrom p =
+      keep (λ p. not (elem p items) && ltb p x && not (hasMoved pairs x p))
+      (upFrom p (rangeOf (g .ranges) x .start + rangeOf (g .ranges) x .count - p))
 
   pub preceding-low : low ≤ x
   preceding-low = omega (arith, inRange-true x (rangeOf (g .ranges) x) (s .inside) .0, s .start)

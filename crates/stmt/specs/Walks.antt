@@ -13,6 +13,7 @@ use Rattle.rules.specs.Items.{rangeOf, inRange, Group, kindOf, pathHolds, weigh
 use Rattle.rules.specs.Calls.{itemListLimit}
 use Rattle.laws.specs.Splits.{size, WellFormed}
 use Rattle.laws.specs.ItemWalk.{Walked}
+use Rattle.split.specs.Shown.{Kinds, RangeIs, Ranges}
 use Rattle.lists.specs.Bits.{bitAt, Inserted}
 use Rattle.lists.specs.Stacks.{stack}
 use Rattle.lists.specs.Pairs.{Onward, targets}
@@ -47,21 +48,6 @@ pub record Chained (neighbours : ℕ → List ℕ) (n : ℕ) (ends heads next : 
   pub heads-most : (x : ℕ) → x < n → getD heads x 0 ≤ count
   pub next-onward : (i : ℕ) → i < count → Onward (suc i) count (getD next i 0)
   pub along : (x : ℕ) → x < n → targets ends next count (getD heads x 0) ≡ neighbours x
-
--- The kinds of a group's numbers.
-pub record Kinds (g : Group) (kinds : List ℕ) : Type 0 where
-  pub room : size g ≤ length kinds
-  pub each : (x : ℕ) → x < size g → getD kinds x 0 ≡ kindOf g x
-
--- The range that holds x is `low` to `high`, without `high`; where there is none, both are 0.
-pub record RangeIs (g : Group) (x low high : ℕ) : Type 0 where
-  pub start : low ≡ rangeOf (g .ranges) x .start
-  pub end : high ≡ rangeOf (g .ranges) x .start + rangeOf (g .ranges) x .count
-
-pub record Ranges (g : Group) (low high : List ℕ) : Type 0 where
-  pub low-size : size g ≤ length low
-  pub high-size : size g ≤ length high
-  pub each : (x : ℕ) → x < size g → RangeIs g x (getD low x 0) (getD high x 0)
 
 -- whether the need of x for d is weak: its weight is Maybe
 abbrev pub isWeak : Group → ℕ → ℕ → Bool

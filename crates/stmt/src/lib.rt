@@ -1,2 +1,2 @@
-// The items of a group and their sort (sort_stmts, iter).
+// The item walk of a group (iter).
 pub mod walk;

@@ -1,11 +1,12 @@
-// The item walk (iter).
+// The item walk (iter): one visit, by the steps of the paper's 'Item walk', and a run of visits.
 use lists::bits;
+use project::ItemId;
 ghost use Prim.Native.Nat.{ℕ, _+_, _*_, _-_, _≤_, _<_};
 ghost use mathlib.Core.Path.{_≡_};
+ghost use mathlib.Core.Bool.{false, not, _&&_};
 ghost use mathlib.Core.List.{List, _∷_, _++_};
 ghost use lib.Dec.{eqb};
 ghost use lib.ListN.{length, getD, take, set};
-ghost use mathlib.Core.Bool.{false, not, _&&_};
 ghost use Rattle.rules.specs.Lists.{elem};
 ghost use Rattle.rules.specs.Walk.{run as runs};
 ghost use Rattle.rules.specs.Items.{isInjected, mayDrop, Group, ItemState, itemState, waiting, oneByOne, preceding as precedingOf, afterPreceding, visitItem, placedOf, itemWalk};
@@ -269,20 +270,20 @@ fn place_injected(
     order: &mut [u16],
     list: &mut [u16],
     w: ItemWalk,
-    x: u16,
+    x: ItemId,
 ) -> Outcome
-    requires { ⌜ ((g : Group) × (rest : List ℕ) × (items : List ℕ) × Awaited g items (now from) (now heads) (now next) (now kinds) (now placed) x
-        × Front (size g) (now placed) (now order) (now list) w x rest items) ⌝ }
+    requires { ⌜ ((g : Group) × (rest : List ℕ) × (items : List ℕ) × Awaited g items (now from) (now heads) (now next) (now kinds) (now placed) (x .0)
+        × Front (size g) (now placed) (now order) (now list) w (x .0) rest items) ⌝ }
     ensures { λ r. ⌜ ((g : Group) (rest items : List ℕ)
-        → Awaited g items (now (from .entry)) (now (heads .entry)) (now (next .entry)) (now (kinds .entry)) (now (placed .entry)) x
-        → Front (size g) (now (placed .entry)) (now (order .entry)) (now (list .entry)) w x rest items
-        → Put (size g) (oneByOne (waiting g items x) rest) (x ∷ items) (now (placed .exit)) (now (order .exit)) (now (list .exit)) r) ⌝ }
+        → Awaited g items (now (from .entry)) (now (heads .entry)) (now (next .entry)) (now (kinds .entry)) (now (placed .entry)) (x .0)
+        → Front (size g) (now (placed .entry)) (now (order .entry)) (now (list .entry)) w (x .0) rest items
+        → Put (size g) (oneByOne (waiting g items (x .0)) rest) (x .0 ∷ items) (now (placed .exit)) (now (order .exit)) (now (list .exit)) r) ⌝ }
 {
-    let end = push_waiting(from, heads, next, kinds, placed, list, w.end - 1, x);
+    let end = push_waiting(from, heads, next, kinds, placed, list, w.end - 1, x.0);
     if ItemWalk::LIST < end {
         return Outcome::ListFull;
     }
-    place(placed, order, w.placed, x);
+    place(placed, order, w.placed, x.0);
     Outcome::Placed(ItemWalk {
         end,
         placed: w.placed + 1,
@@ -332,26 +333,26 @@ fn visit_uninjected(
     order: &mut [u16],
     list: &mut [u16],
     w: ItemWalk,
-    x: u16,
+    x: ItemId,
 ) -> Outcome
     requires { ⌜ ((g : Group) × (rest : List ℕ) × (items : List ℕ) × (pairs : List (ℕ × ℕ))
-        × Settling g (now from) (now heads) (now next) (now kinds) low width (now placed) (now moved) (now order) (now list) w x rest items pairs) ⌝ }
+        × Settling g (now from) (now heads) (now next) (now kinds) low width (now placed) (now moved) (now order) (now list) w (x .0) rest items pairs) ⌝ }
     ensures { λ r. ⌜ ((g : Group) (rest items : List ℕ) (pairs : List (ℕ × ℕ))
         → Settling g (now (from .entry)) (now (heads .entry)) (now (next .entry)) (now (kinds .entry)) low width (now (placed .entry))
-        (now (moved .entry)) (now (order .entry)) (now (list .entry)) w x rest items pairs
-        → Came g items (afterPreceding g x rest items pairs (precedingOf g items pairs x)) width (now (placed .exit)) (now (moved .exit))
+        (now (moved .entry)) (now (order .entry)) (now (list .entry)) w (x .0) rest items pairs
+        → Came g items (afterPreceding g (x .0) rest items pairs (precedingOf g items pairs (x .0))) width (now (placed .exit)) (now (moved .exit))
         (now (order .exit)) (now (list .exit)) r) ⌝ }
 {
-    let p = preceding(placed, moved, width, low, x);
-    if p == x {
-        place(placed, order, w.placed, x);
+    let p = preceding(placed, moved, width, low, x.0);
+    if p == x.0 {
+        place(placed, order, w.placed, x.0);
         return Outcome::Placed(ItemWalk {
             end: w.end - 1,
             placed: w.placed + 1,
         });
     }
-    note(moved, width, x, p);
-    put_preceding(from, heads, next, kinds, placed, list, w, x, p)
+    note(moved, width, x.0, p);
+    put_preceding(from, heads, next, kinds, placed, list, w, x.0, p)
 }
 
 // Steps 2 to 5 for the front item x, which is not placed.
@@ -374,16 +375,16 @@ fn visit_unplaced(
     order: &mut [u16],
     list: &mut [u16],
     w: ItemWalk,
-    x: u16,
+    x: ItemId,
 ) -> Outcome
-    requires { ⌜ ((g : Group) × (rest : List ℕ) × (items : List ℕ) × (pairs : List (ℕ × ℕ)) × (elem x items ≡ false)
+    requires { ⌜ ((g : Group) × (rest : List ℕ) × (items : List ℕ) × (pairs : List (ℕ × ℕ)) × (elem (x .0) items ≡ false)
         × Walking g (now to) (now «heads_out») (now «next_out») (now from) (now «heads_in») (now «next_in») (now paths) (now weak) (now kinds) (now low)
-        (now high) width (now placed) (now moved) (now «open») (now order) (now list) w (itemState (x ∷ rest) items pairs)) ⌝ }
-    ensures { λ r. ⌜ ((g : Group) (rest items : List ℕ) (pairs : List (ℕ × ℕ)) → elem x items ≡ false
+        (now high) width (now placed) (now moved) (now «open») (now order) (now list) w (itemState (x .0 ∷ rest) items pairs)) ⌝ }
+    ensures { λ r. ⌜ ((g : Group) (rest items : List ℕ) (pairs : List (ℕ × ℕ)) → elem (x .0) items ≡ false
         → Walking g (now (to .entry)) (now («heads_out» .entry)) (now («next_out» .entry)) (now (from .entry)) (now («heads_in» .entry))
         (now («next_in» .entry)) (now (paths .entry)) (now (weak .entry)) (now (kinds .entry)) (now (low .entry)) (now (high .entry)) width
-        (now (placed .entry)) (now (moved .entry)) (now («open» .entry)) (now (order .entry)) (now (list .entry)) w (itemState (x ∷ rest) items pairs)
-        → Came g items (visitItem g (itemState (x ∷ rest) items pairs)) width (now (placed .exit)) (now (moved .exit)) (now (order .exit))
+        (now (placed .entry)) (now (moved .entry)) (now («open» .entry)) (now (order .entry)) (now (list .entry)) w (itemState (x .0 ∷ rest) items pairs)
+        → Came g items (visitItem g (itemState (x .0 ∷ rest) items pairs)) width (now (placed .exit)) (now (moved .exit)) (now (order .exit))
         (now (list .exit)) r) ⌝ }
 {
     let n = find_open(
@@ -399,12 +400,12 @@ fn visit_unplaced(
         placed,
         moved,
         open,
-        x,
+        x.0,
     );
     if 0 < n {
         return put_open(list, open, n, w);
     }
-    let at = x as usize;
+    let at = x.0 as usize;
     if kinds[at] == 4 {
         return place_injected(from, heads_in, next_in, kinds, placed, order, list, w, x);
     }
@@ -482,7 +483,7 @@ pub fn visit(
         order,
         list,
         w,
-        x,
+        ItemId(x),
     )
 }
 

@@ -57,7 +57,8 @@ cast-e c = omega (arith, c .shared-slice-known13 .given (entry (c .before .befor
 
 loop-holds : tie.Need-loop-holds Inv-loop μ-loop
 loop-holds c =
-    (refl, refl, λ g items pairs f. finding-start g items pairs (f .chained) (entry (c .before .before .before .before) .args .width) (entry (c .before .before .before .before) .args .x) (f .x-below) (f .moved-shown))
+    let a = entry (c .before .before .before .before) .args in
+    (refl, refl, λ g items pairs f. finding-start g items pairs (f .chained) (a .width) (a .x) (f .x-below) (f .moved-shown))
 
 -- what holds at the loop's head for the group that the contract names
 most : (c : tie.At-loop Inv-loop μ-loop) → c .loop .e ≤ entry-of c .pre .3 .chained .count
@@ -99,10 +100,10 @@ slice-write-open c =
     (omega (arith, head .loop .inv .1, f .room))
 
 mul-open : tie.Need-mul-open Inv-loop μ-loop
-mul-open c = omega (arith, slice-write-open c, entry-of (c .before .before .before .before .before .before .before .before .before) .good, c .before .before .before .before .before .before .before .before .before .loop .inv .1)
+mul-open c = let head = c .before .before .before .before .before .before .before .before .before in omega (arith, slice-write-open c, entry-of head .good, head .loop .inv .1)
 
 add-n : tie.Need-add-n Inv-loop μ-loop
-add-n c = omega (arith, slice-write-open c, entry-of (c .before .before .before .before .before .before .before .before .before) .good, c .before .before .before .before .before .before .before .before .before .loop .inv .1)
+add-n c = let head = c .before .before .before .before .before .before .before .before .before in omega (arith, slice-write-open c, entry-of head .good, head .loop .inv .1)
 
 sub-e : tie.Need-sub-e Inv-loop μ-loop
 sub-e c = omega arith
@@ -111,7 +112,9 @@ mul-e-2 : tie.Need-mul-e-2 Inv-loop μ-loop
 mul-e-2 c = let head = c .before .before .before .before .before .before .before in omega (arith, most head, entry-of head .pre .3 .chained .most)
 
 shared-slice-read-e-2 : tie.Need-shared-slice-read-e-2 Inv-loop μ-loop
-shared-slice-read-e-2 c = let head = c .before .before .before .before .before .before .before .before in omega (arith, most head, entry-of head .pre .3 .chained .next-size)
+shared-slice-read-e-2 c =
+    let head = c .before .before .before .before .before .before .before .before in
+    omega (arith, most head, entry-of head .pre .3 .chained .next-size)
 
 cast-e-2 : tie.Need-cast-e-2 Inv-loop μ-loop
 cast-e-2 c = omega (arith, c .shared-slice-known15 .given (c .before .before .before .before .before .before .before .before .loop .e - 1))

@@ -76,7 +76,8 @@ returns c g items a =
     (waiting-bit a _ below ∙ sym (c .before .before .is-waiting .ensures) ∙ c .before .if1 .taken) (c .if2 .taken)
 
 -- there is room for one more entry
-room : (c : tie.Else2 Inv-loop μ-loop) → (c .before .before .before .before .before .loop .at < itemListLimit) × (length (c .before .before .before .before .before .loop .list) ≡ itemListLimit)
+room : (c : tie.Else2 Inv-loop μ-loop)
+    → (c .before .before .before .before .before .loop .at < itemListLimit) × (length (c .before .before .before .before .before .loop .list) ≡ itemListLimit)
 room c =
     let head = c .before .before .before .before .before in
     let start = entry (head .before) in

@@ -36,19 +36,22 @@ record Lengths (placed₀ moved₀ open₀ order₀ list₀ placed moved «open�
   of-list : length list ≡ length list₀
 
 abbrev Inv-loop : tie.InvT-loop
-Inv-loop to heads-out next-out from heads-in next-in paths weak kinds low high width placed₀ moved₀ open₀ order₀ list₀ n allowance already w₀ made₀ placed moved «open» order list w made =
+Inv-loop to heads-out next-out from heads-in next-in paths weak kinds low high width placed₀ moved₀ open₀ order₀ list₀ n allowance already w₀ made₀ placed
+    moved «open» order list w made =
     (made ≤ allowance) × Lengths placed₀ moved₀ open₀ order₀ list₀ placed moved «open» order list
     × ((g : Group) (first : ItemState) → n ≡ size g
     → Walking g to heads-out next-out from heads-in next-in paths weak kinds low high width placed₀ moved₀ open₀ order₀ list₀ w₀ first
     → Running g to heads-out next-out from heads-in next-in paths weak kinds low high width allowance already first placed moved «open» order list w made)
 
 abbrev μ-loop : tie.MeasureT-loop
-μ-loop to heads-out next-out from heads-in next-in paths weak kinds low high width placed₀ moved₀ open₀ order₀ list₀ n allowance already w₀ made₀ placed moved «open» order list w made =
+μ-loop to heads-out next-out from heads-in next-in paths weak kinds low high width placed₀ moved₀ open₀ order₀ list₀ n allowance already w₀ made₀ placed
+    moved «open» order list w made =
     allowance - made
 
 loop-holds : tie.Need-loop-holds Inv-loop μ-loop
 loop-holds c =
-    (omega arith, record { of-placed = refl; of-moved = refl; of-open = refl; of-order = refl; of-list = refl }, λ g first e h. runs-first h)
+    let start = c .before .before .before .before .before .before .before .before .before .before .before .before .before .before .before .before in
+    (start .pre .0, record { of-placed = refl; of-moved = refl; of-open = refl; of-order = refl; of-list = refl }, λ g first e h. runs-first h)
 
 same-length : tie.Need-same-length Inv-loop μ-loop
 same-length c = c .before .before .loop .inv .1 .of-placed
@@ -66,7 +69,7 @@ same-length-5 : tie.Need-same-length-5 Inv-loop μ-loop
 same-length-5 c = c .before .before .loop .inv .1 .of-list
 
 returns : tie.Need-returns Inv-loop μ-loop
-returns c g s e h = ends (c .before .before .loop .inv .2 g s e h) e (omega arith)
+returns c g s e h = ends (c .before .before .loop .inv .2 g s e h) e (c .if1 .taken)
 
 same-length-6 : tie.Need-same-length-6 Inv-loop μ-loop
 same-length-6 c = c .before .before .before .loop .inv .1 .of-placed
@@ -84,7 +87,7 @@ same-length-10 : tie.Need-same-length-10 Inv-loop μ-loop
 same-length-10 c = c .before .before .before .loop .inv .1 .of-list
 
 returns-2 : tie.Need-returns-2 Inv-loop μ-loop
-returns-2 c g s e h = spends (c .before .before .before .loop .inv .2 g s e h) (λ q. omega arith) (omega arith)
+returns-2 c g s e h = spends (c .before .before .before .loop .inv .2 g s e h) (λ q. c .before .if1 .left (q ∙ sym e)) (c .if2 .taken)
 
 add-made : tie.Need-add-made Inv-loop μ-loop
 add-made c = omega arith
@@ -97,13 +100,21 @@ visit-requires c κs =
     let head = c .before .before .before .before .before .before .before .before in
     let start = entry head in
     let r = head .loop .inv .2 (start .pre .1 .0) (start .pre .1 .1) (start .pre .1 .2) (start .pre .1 .3) in
-    (entry-left (r .walking) (λ q. c .before .before .before .before .before .before .if1 .left (q ∙ sym (start .pre .1 .2))), (start .pre .1 .0, r .state, r .walking))
+    let some = entry-left (r .walking) (λ q. c .before .before .before .before .before .before .if1 .left (q ∙ sym (start .pre .1 .2))) in
+    (some, (start .pre .1 .0, r .state, r .walking))
 
 -- after the visit
 abbrev head : tie.After-visit Inv-loop μ-loop → tie.At-loop Inv-loop μ-loop
 head v = v .before .before .before .before .before .before .before .before .before
 
-lengths : (v : tie.After-visit Inv-loop μ-loop) → Lengths (entry (head v) .args .placed .now) (entry (head v) .args .moved .now) (entry (head v) .args .«open» .now) (entry (head v) .args .order .now) (entry (head v) .args .list .now) (v .visit .last .1 .1 .1 .1 .1 .1 .1 .1 .1 .1 .1 .1 .0) (v .visit .last .1 .1 .1 .1 .1 .1 .1 .1 .1 .1 .1 .1 .1 .0) (v .visit .last .1 .1 .1 .1 .1 .1 .1 .1 .1 .1 .1 .1 .1 .1 .0) (v .visit .last .1 .1 .1 .1 .1 .1 .1 .1 .1 .1 .1 .1 .1 .1 .1 .0) (v .visit .last .1 .1 .1 .1 .1 .1 .1 .1 .1 .1 .1 .1 .1 .1 .1 .1 .0)
+lengths : (v : tie.After-visit Inv-loop μ-loop)
+    → Lengths (entry (head v) .args .placed .now) (entry (head v) .args .moved .now) (entry (head v) .args .«open» .now)
+    (entry (head v) .args .order .now) (entry (head v) .args .list .now)
+    (v .visit .last .1 .1 .1 .1 .1 .1 .1 .1 .1 .1 .1 .1 .0)
+    (v .visit .last .1 .1 .1 .1 .1 .1 .1 .1 .1 .1 .1 .1 .1 .0)
+    (v .visit .last .1 .1 .1 .1 .1 .1 .1 .1 .1 .1 .1 .1 .1 .1 .0)
+    (v .visit .last .1 .1 .1 .1 .1 .1 .1 .1 .1 .1 .1 .1 .1 .1 .1 .0)
+    (v .visit .last .1 .1 .1 .1 .1 .1 .1 .1 .1 .1 .1 .1 .1 .1 .1 .1 .0)
 lengths v =
     let before = head v .loop .inv .1 in
     record {

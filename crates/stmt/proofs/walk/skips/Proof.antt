@@ -6,7 +6,7 @@ use mathlib.Core.Path.{_≡_, sym, _∙_}
 use mathlib.Core.Logic.{⊎-elim}
 use mathlib.Core.Bool.{false}
 use Rattle.rules.specs.Items.{Group, sameRange}
-use Rattle.stmt.specs.Walks.{RangeIs}
+use Rattle.split.specs.Shown.{RangeIs}
 use Rattle.stmt.specs.WalkLaws.{cell, range-before, range-behind, skipped-inside, passed-injected, passed-pathless, skipped-noted}
 use Rattle.stmt.proofs.walk.skips.Statement.{statement}
 use Rattle.stmt.proofs.walk.skips.Tie as tie
@@ -35,7 +35,8 @@ returns-3 : tie.Need-returns-3
 returns-3 c g pairs s =
     let start = c .before .before .before .before .before .before in
     passed-pathless s (outside (c .before .before .before) g (s .range-is)) (c .before .before .if3 .left)
-    (sym (s .paths-shown .bits (start .args .d) (start .args .x) (s .d-below) (s .x-below)) ∙ sym (c .before .has-pair .ensures) ∙ not-true _ (c .if4 .taken))
+    (sym (s .paths-shown .bits (start .args .d) (start .args .x) (s .d-below) (s .x-below))
+    ∙ sym (c .before .has-pair .ensures) ∙ not-true _ (c .if4 .taken))
 
 note-requires : tie.Need-note-requires
 note-requires c κs =
@@ -51,7 +52,8 @@ returns-4 c g pairs s =
     let called = c .before .before .before .before in
     let start = called .before .before .before .before .before .before in
     skipped-noted s (outside (called .before .before .before) g (s .range-is)) (called .before .before .if3 .left)
-    (sym (s .paths-shown .bits (start .args .d) (start .args .x) (s .d-below) (s .x-below)) ∙ sym (called .before .has-pair .ensures) ∙ not-false _ (called .if4 .left))
+    (sym (s .paths-shown .bits (start .args .d) (start .args .x) (s .d-below) (s .x-below))
+    ∙ sym (called .before .has-pair .ensures) ∙ not-false _ (called .if4 .left))
     (c .before .before .note .ensures)
 
 pub skips-spec : {M : Type 1} → statement M

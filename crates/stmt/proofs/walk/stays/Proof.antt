@@ -20,7 +20,9 @@ has-pair-requires c κs =
 
 returns-2 : tie.Need-returns-2
 returns-2 c g items t =
-    sym (stays-pathless t (sym (c .before .before .before .row-has .ensures) ∙ c .before .before .if1 .left) (sym (c .before .has-pair .ensures) ∙ not-true _ (c .if2 .taken)))
+    sym
+    (stays-pathless t (sym (c .before .before .before .row-has .ensures) ∙ c .before .before .if1 .left)
+    (sym (c .before .has-pair .ensures) ∙ not-true _ (c .if2 .taken)))
 
 has-pair-requires-2 : tie.Need-has-pair-requires-2
 has-pair-requires-2 c κs =

@@ -7,8 +7,8 @@ use Rattle.stmt.specs.VisitLaws.{in-front, by-front, front-bit, front-wi
 use Rattle.stmt.proofs.walk.visit.Statement.{statement}
 use Rattle.stmt.proofs.walk.visit.Tie as tie
 
-abbrev entry : tie.After-row-has-arg → tie.Start
-entry c = c .before .before .before .before .before .before .before .before .before .before .before .before .before .before .before .before .before .before .before
+abbrev entry : tie.After-struct-known → tie.Start
+entry c = c .before .before .before .before .before .before .before .before .before .before .before .before .before .before .before .before .before
 
 sub-top : tie.Need-sub-top
 sub-top c = search needs
@@ -20,46 +20,60 @@ slice-read-x : tie.Need-slice-read-x
 slice-read-x c = search needs
 
 cast-row-has : tie.Need-cast-row-has
-cast-row-has c = omega (arith, c .before .slice-known6 .given (entry c .args .w .end - 1))
+cast-row-has c = omega (arith, c .before .slice-known6 .given (entry (c .before .before) .args .w .end - 1))
 
 row-has-requires : tie.Need-row-has-requires
-row-has-requires c κs = front-within (in-front (entry c .pre .1 .1) (entry c .pre .1 .2) (entry c .pre .0) .3)
+row-has-requires c κs =
+    let start = entry (c .before .before) in
+    front-within (in-front (start .pre .1 .1) (start .pre .1 .2) (start .pre .0) .3)
 
 same-length : tie.Need-same-length
 same-length c = refl
 
 returns : tie.Need-returns
 returns c g s h =
-    by-front s h (entry (c .before .before) .pre .0)
+    by-front s h (entry (c .before .before .before .before) .pre .0)
     (λ rest items pairs k. visit-passed k (sym (c .before .row-has .ensures) ∙ c .if1 .taken))
 
 visit-unplaced-requires : tie.Need-visit-unplaced-requires
 visit-unplaced-requires c κs =
-    let start = entry (c .before .before .before .before .before .before .before) in
+    let tested = c .before .before .before .before .before in
+    let start = entry (tested .before .before .before .before) in
     let f = in-front (start .pre .1 .1) (start .pre .1 .2) (start .pre .0) in
-    (start .pre .1 .0, f .0, f .1, f .2, sym (front-bit (f .3)) ∙ sym (c .before .before .before .before .before .before .row-has .ensures) ∙ c .before .before .before .before .before .if1 .left, f .3)
+    (start .pre .1 .0, f .0, f .1, f .2, sym (front-bit (f .3)) ∙ sym (tested .before .row-has .ensures) ∙ tested .if1 .left, f .3)
 
 same-length-2 : tie.Need-same-length-2
-same-length-2 c = c .before .before .before .before .before .before .before .before .before .before .visit-unplaced .kept .1 .1 .1 .1 .1 .1 .1 .1 .1 .1 .1 .1 .0
+same-length-2 c =
+    let called = c .before .before .before .before .before .before .before .before .before .before in
+    called .visit-unplaced .kept .1 .1 .1 .1 .1 .1 .1 .1 .1 .1 .1 .1 .0
 
 same-length-3 : tie.Need-same-length-3
-same-length-3 c = c .before .before .before .before .before .before .before .before .before .before .visit-unplaced .kept .1 .1 .1 .1 .1 .1 .1 .1 .1 .1 .1 .1 .1 .0
+same-length-3 c =
+    let called = c .before .before .before .before .before .before .before .before .before .before in
+    called .visit-unplaced .kept .1 .1 .1 .1 .1 .1 .1 .1 .1 .1 .1 .1 .1 .0
 
 same-length-4 : tie.Need-same-length-4
-same-length-4 c = c .before .before .before .before .before .before .before .before .before .before .visit-unplaced .kept .1 .1 .1 .1 .1 .1 .1 .1 .1 .1 .1 .1 .1 .1 .0
+same-length-4 c =
+    let called = c .before .before .before .before .before .before .before .before .before .before in
+    called .visit-unplaced .kept .1 .1 .1 .1 .1 .1 .1 .1 .1 .1 .1 .1 .1 .1 .0
 
 same-length-5 : tie.Need-same-length-5
-same-length-5 c = c .before .before .before .before .before .before .before .before .before .before .visit-unplaced .kept .1 .1 .1 .1 .1 .1 .1 .1 .1 .1 .1 .1 .1 .1 .1 .0
+same-length-5 c =
+    let called = c .before .before .before .before .before .before .before .before .before .before in
+    called .visit-unplaced .kept .1 .1 .1 .1 .1 .1 .1 .1 .1 .1 .1 .1 .1 .1 .1 .0
 
 same-length-6 : tie.Need-same-length-6
-same-length-6 c = c .before .before .before .before .before .before .before .before .before .before .visit-unplaced .kept .1 .1 .1 .1 .1 .1 .1 .1 .1 .1 .1 .1 .1 .1 .1 .1 .0
+same-length-6 c =
+    let called = c .before .before .before .before .before .before .before .before .before .before in
+    called .visit-unplaced .kept .1 .1 .1 .1 .1 .1 .1 .1 .1 .1 .1 .1 .1 .1 .1 .1 .0
 
 returns-2 : tie.Need-returns-2
 returns-2 c g s h =
     let called = c .before .before .before .before .before .before .before .before .before .before in
-    by-front s h (entry (called .before .before .before .before .before .before .before .before) .pre .0)
+    let tested = called .before .before .before .before .before .before in
+    by-front s h (entry (tested .before .before .before .before) .pre .0)
     (λ rest items pairs k.
-    called .visit-unplaced .ensures g rest items pairs (sym (front-bit k) ∙ sym (called .before .before .before .before .before .before .before .row-has .ensures) ∙ called .before .before .before .before .before .before .if1 .left) k)
+    called .visit-unplaced .ensures g rest items pairs (sym (front-bit k) ∙ sym (tested .before .row-has .ensures) ∙ tested .if1 .left) k)
 
 pub visit-spec : {M : Type 1} → statement M
 visit-spec =

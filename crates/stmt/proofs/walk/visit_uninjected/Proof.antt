@@ -6,6 +6,9 @@ use Rattle.stmt.specs.VisitLaws.{settled-placed, precedes-below, settled
 use Rattle.stmt.proofs.walk.visit_uninjected.Statement.{statement}
 use Rattle.stmt.proofs.walk.visit_uninjected.Tie as tie
 
+abbrev entry : tie.After-preceding → tie.Start
+entry c = c .before .before .before .before .before .before .before .before .before .before .before
+
 preceding-requires : tie.Need-preceding-requires
 preceding-requires c κs = search needs
 
@@ -13,7 +16,7 @@ place-requires : tie.Need-place-requires
 place-requires c κs = search needs
 
 sub-t24 : tie.Need-sub-t24
-sub-t24 c = some-entry (c .before .before .before .before .before .before .before .before .before .before .before .before .before .before .before .before .before .before .before .before .pre .4 .front .entries)
+sub-t24 c = some-entry (entry (c .before .before .before .before .before .before .before .before .before .before) .pre .4 .front .entries)
 
 add-t25 : tie.Need-add-t25
 add-t25 c = search needs
@@ -30,21 +33,21 @@ same-length-3 c = c .before .before .before .before .before .before .place .kept
 returns : tie.Need-returns
 returns c g rest items pairs s =
     let placing = c .before .before .before .before .before .before in
-    let found = placing .before .before .before .before in
+    let found = placing .before .before .before .before .before in
     settled-placed s (found .preceding .ensures g items pairs (s .precedable)) (placing .before .before .before .if1 .taken) (placing .place .ensures .0)
     (placing .place .ensures .1)
 
 note-requires : tie.Need-note-requires
 note-requires c κs =
-    let found = c .before .before in
-    let start = found .before .before .before .before .before .before .before .before .before .before .before in
+    let found = c .before .before .before in
+    let start = entry found in
     let s = start .pre .4 in
     let q = found .preceding .ensures (start .pre .0) (start .pre .2) (start .pre .3) (s .precedable) in
-    cell (s .precedable .moved-shown) (start .args .x) (found .preceding .result) (s .precedable .x-below) (precedes-below s q (c .before .if1 .left))
+    cell (s .precedable .moved-shown) (start .args .x .0) (found .preceding .result) (s .precedable .x-below) (precedes-below s q (c .before .if1 .left))
 
 put-preceding-requires : tie.Need-put-preceding-requires
 put-preceding-requires c κs =
-    let start = c .before .before .before .before .before .before .before .before .before .before .before .before .before .before .before .before .before .before in
+    let start = entry (c .before .before .before .before .before .before .before .before) in
     let s = start .pre .4 in
     ((start .pre .0, start .pre .2, s .awaited), (some-entry (s .front .entries), listed-self (s .front .entries)))
 
@@ -60,7 +63,7 @@ same-length-6 c = c .before .before .put-preceding .kept .1 .1 .1 .1 .1 .0
 returns-2 : tie.Need-returns-2
 returns-2 c g rest items pairs s =
     let noting = c .before .before .before .before .before .before .before in
-    let found = noting .before .before .before in
+    let found = noting .before .before .before .before in
     settled-waits s (found .preceding .ensures g items pairs (s .precedable)) (noting .before .before .if1 .left) (noting .note .ensures)
     (c .before .before .put-preceding .ensures g items (s .awaited))
 

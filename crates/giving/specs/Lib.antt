@@ -1,0 +1,4 @@
+pub mod Giving
+pub mod SetLaws
+pub mod StoreLaws
+pub mod KeptLaws

@@ -1,0 +1,112 @@
+// Which modules of a group give items, as sets of bits, and their kept rows in row order.
+pub mod kept;
+
+use lists::bits;
+use project::kinds::Kind;
+use project::kinds::kind_of;
+ghost use Prim.Native.Nat.{ℕ, _≤_, _<_};
+ghost use mathlib.Core.Path.{_≡_};
+ghost use mathlib.Core.Bool.{not, _&&_, _||_};
+ghost use lib.ListN.{length};
+ghost use Rattle.rules.specs.Lists.{any, elem};
+ghost use Rattle.rules.specs.Project.{Project, itemRow, importRow, pairRows};
+ghost use Rattle.rules.specs.Items.{keepsRowOrder};
+ghost use Rattle.project.specs.Kinds.{keptBy};
+ghost use Rattle.lists.specs.Bits.{bit};
+ghost use Rattle.giving.specs.Giving.{Members, isImporter, isGiver, givingOf, Stored, ImportersBelow, ItemsBelow, ImportersShown};
+
+// The modules that import.
+pub fn importers(imports: &[u8]) -> u64
+    requires { ⌜ ImportersBelow (pairRows importRow (now imports)) ⌝ }
+    ensures { λ r. ⌜ ((m : ℕ) → bit r m ≡ any (isImporter m) (pairRows importRow (now (imports .entry)))) ⌝ }
+{
+    let mut set = 0;
+    let mut i = 0;
+    while i + 1 < imports.len() {
+        set = bits::with(set, imports[i]);
+        i += 2;
+    }
+    set
+}
+
+// Whether items of a kind are kept.
+pub fn is_kept(k: Kind) -> bool
+    ensures { λ r. ⌜ r ≡ keptBy k ⌝ }
+{
+    match k {
+        Kind::Plain => true,
+        Kind::MayDropAll => true,
+        Kind::MayDropWeak => true,
+        Kind::Injected => true,
+        Kind::Dropped => false,
+        Kind::Refused => true,
+    }
+}
+
+// The modules that have kept items.
+pub fn givers(items: &[u8]) -> u64
+    requires { ⌜ ItemsBelow (pairRows itemRow (now items)) ⌝ }
+    ensures { λ r. ⌜ ((m : ℕ) → bit r m ≡ any (isGiver m) (pairRows itemRow (now (items .entry)))) ⌝ }
+{
+    let mut set = 0;
+    let mut i = 0;
+    while i + 1 < items.len() {
+        if is_kept(kind_of(items[i + 1])) {
+            set = bits::with(set, items[i]);
+        }
+        i += 2;
+    }
+    set
+}
+
+// Whether a module that is not used gives items.
+fn gives(used: u64, givers: u64, m: u8) -> bool
+    requires { ⌜ m < 64 ⌝ }
+    ensures { λ r. ⌜ r ≡ (not (bit used m) && bit givers m) ⌝ }
+{
+    !bits::has(used, m) && bits::has(givers, m)
+}
+
+// The members of a group that are not used and give items, last first, written to `modules`; how many.
+pub fn giving(members: &[u8], used: u64, givers: u64, modules: &mut [u8]) -> usize
+    requires { ⌜ Members (now members) ⌝ }
+    requires { ⌜ length (now members) ≤ length (now modules) ⌝ }
+    ensures { λ r. ⌜ Stored (givingOf used givers (now (members .entry))) 0 (now (modules .entry)) (now (modules .exit)) r ⌝ }
+{
+    let mut n = 0;
+    let mut i = members.len();
+    while 0 < i {
+        i -= 1;
+        let m = members[i];
+        if gives(used, givers, m) {
+            modules[n] = m;
+            n += 1;
+        }
+    }
+    n
+}
+
+// A set with the members of a group.
+pub fn with_members(set: u64, members: &[u8]) -> u64
+    requires { ⌜ Members (now members) ⌝ }
+    ensures { λ r. ⌜ ((m : ℕ) → bit r m ≡ (elem m (now (members .entry)) || bit set m)) ⌝ }
+{
+    let mut all = set;
+    let mut i = 0;
+    while i < members.len() {
+        all = bits::with(all, members[i]);
+        i += 1;
+    }
+    all
+}
+
+// Whether a group keeps its row order: it is one module, which does not import.
+pub fn keeps_row_order(members: &[u8], importers: u64) -> bool
+    requires { ⌜ Members (now members) ⌝ }
+    ensures { λ r. ⌜ ((p : Project) → ImportersShown p importers → r ≡ keepsRowOrder p (now (members .entry))) ⌝ }
+{
+    if members.len() != 1 {
+        return false;
+    }
+    !bits::has(importers, members[0])
+}

@@ -1,0 +1,6 @@
+pub mod Walking
+pub mod WalkingLaws
+pub mod Sorts
+pub mod Written
+pub mod WriteLaws
+pub mod SortLaws

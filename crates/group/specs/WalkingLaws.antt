@@ -1,0 +1,181 @@
+-- Laws of the walk of a group's items from its first list on. Assumes nothing.
+use Prim.Native.Nat.{ℕ, _+_, _*_, _/_, _≤_}
+use native.Mathlib.Omega.{arith}
+use native.Mathlib.Nat.{mul-le-mul}
+use mathlib.Core.Path.{_≡_, refl, sym, ap, subst, _∙_}
+use mathlib.Core.List.{List, []}
+use lib.ListN.{length, take}
+use Rattle.rules.specs.Lists.{any, elem}
+use Rattle.rules.specs.Project.{Project, Need, itemLimit, needLimit, needRows}
+use Rattle.rules.specs.Items.{numbered, groupOf, pathHolds, weightOf, Group, hasMoved, itemList, placedOf, itemStart}
+use Rattle.laws.specs.Splits.{size, length-kinds, length-numbering, wellFormed}
+use Rattle.laws.specs.ItemWalk.{walked-start}
+use Rattle.lists.specs.Bits.{bitAt}
+use Rattle.lists.specs.Stacks.{stack}
+use Rattle.split.specs.declared.Split.{Split}
+use Rattle.split.specs.FirstLists.{FirstListed}
+use Rattle.split.specs.CallerLaws.{listable}
+use Rattle.graph.specs.Rows.{rowWords, Rows, cleared}
+use Rattle.graph.specs.RowLaws.{rows-cleared}
+use Rattle.graph.specs.Graph.{matrices, isMaybe}
+use Rattle.stmt.specs.declared.walk.ItemWalk.{ItemWalk}
+use Rattle.stmt.specs.Walks.{Laid, Row, Table, movedOf, Walking}
+use Rattle.layout.specs.Needs.{needsAmong}
+use Rattle.layout.specs.Layout.{LayRoom, NeedsLaid}
+use Rattle.group.specs.Walking.{Walkable, GroupWalkable, WalkScratch}
+
+-- A cleared row has no bit, and a cleared table no pair.
+row-none : (n : ℕ) (placed : List ℕ) → n ≤ 64 * rowWords → length placed ≡ rowWords → {placed′ : List ℕ} → placed′ ≡ cleared rowWords placed
+    → length placed′ ≡ length placed → Row n placed′ (λ x. elem x [])
+unfolding elem
+row-none n placed h full e same =
+    record {
+      size = omega arith;
+      bits =
+          λ a g.
+          let k : 0 * (64 * rowWords) + a ≡ a = omega arith in
+          ap (λ (l : List ℕ). bitAt l a) e
+          ∙ (rw k at (rows-cleared rowWords 1 placed 0 a (omega arith) (omega arith)));
+    }
+
+table-none : {n : ℕ} (words : ℕ) (moved : List ℕ) → n ≤ 64 * words → 64 * words ≤ itemLimit → n * words ≤ length moved → {moved′ : List ℕ}
+    → moved′ ≡ cleared (n * words) moved → length moved′ ≡ length moved → Table n (64 * words) moved′ (hasMoved [])
+unfolding hasMoved any
+table-none {n} words moved h most room e same =
+    record {
+      within = h;
+      most = most;
+      size = omega arith;
+      bits = λ a b f g. rw e (rows-cleared words n moved a b f (omega arith));
+    }
+
+module _ {g : Group} {to heads-out next-out from heads-in next-in paths weak kinds low high starts : List ℕ} {s : Split} {words : ℕ}
+    {placed moved «open» order list : List ℕ}
+    (h : Walkable g to heads-out next-out from heads-in next-in paths weak kinds low high starts s words placed moved «open» order list) where
+  count-most : s .count ≤ itemLimit
+  count-most = omega (arith, h .count-is, h .laid .paths-shown .within, h .laid .paths-shown .most)
+
+  pub product-most : s .count * words ≤ itemLimit * rowWords
+  product-most =
+      let few : words ≤ rowWords = omega (arith, h .laid .paths-shown .most) in
+      mul-le-mul count-most few
+
+  pub clearable : s .count * words ≤ length moved
+  clearable = rw (h .count-is) (h .moved-size)
+
+  -- the first state of the walk
+  pub walking-first : {placed′ moved′ list′ : List ℕ} {w : ItemWalk} {end : ℕ} → placed′ ≡ cleared rowWords placed → length placed′ ≡ length placed
+      → moved′ ≡ cleared (s .count * words) moved → length moved′ ≡ length moved → FirstListed g list list′ end → length list′ ≡ length list
+      → w ≡ record { end = end; placed = 0 }
+      → Walking g to heads-out next-out from heads-in next-in paths weak kinds low high (64 * words) placed′ moved′ «open» order list′ w (itemStart g)
+  unfolding itemStart itemList placedOf movedOf stack
+  walking-first e placed-same f moved-same l list-same start =
+      record {
+        laid = h .laid;
+        room = omega (arith, h .count-is, count-most, h .open-size);
+        shows =
+            rw start
+            (record {
+              entries =
+                  record {
+                    shown = l .shown;
+                    within = omega (arith, l .count, h .listable .room, h .list-size);
+                    size = list-same ∙ h .list-size;
+                  };
+              items =
+                  record {
+                    bits = row-none (size g) placed (omega (arith, h .count-is, count-most)) (h .placed-size) e placed-same;
+                    shown = refl;
+                    size = omega (arith, h .count-is, count-most, h .order-size);
+                  };
+              pairs =
+                  table-none words moved (h .laid .paths-shown .within) (h .laid .paths-shown .most) (h .moved-size)
+                  (f ∙ ap (λ (n : ℕ). cleared (n * words) moved) (h .count-is)) moved-same;
+            });
+        walked = walked-start g (h .laid .formed);
+      }
+
+-- The words of a row for n items.
+abbrev pub wordsFor : ℕ → ℕ
+wordsFor n = (n + 63) / 64
+
+matrix-rows : (n : ℕ) (matrix : List ℕ) → n ≤ itemLimit → length matrix ≡ itemLimit * rowWords → Rows (wordsFor n) n matrix
+matrix-rows n matrix h e =
+    let most : wordsFor n ≤ rowWords = omega arith in
+    record { numbers = omega arith; most = most; size = omega (arith, mul-le-mul h most) }
+
+-- The items of modules numbered.
+module _ {p : Project} {needs modules rows kinds low high starts numbers : List ℕ} {s : Split}
+    (h : GroupWalkable p needs modules rows kinds low high starts numbers s) where
+  pub items-most : s .count ≤ itemLimit
+  items-most = omega (arith, h .numbered .splits .count-is, length-numbering p (h .giving .once), h .accepted .items-most)
+
+  pub items-are : s .count ≡ size (groupOf p modules)
+  items-are = h .numbered .splits .count-is ∙ sym (length-kinds p modules)
+
+  group-needs : needsAmong (take (s .count) rows) (needRows needs) ≡ groupOf p modules .needs
+  unfolding groupOf
+  group-needs = rw (h .numbered .splits .numbered, ← h .needs-are)
+
+  module _ {seen weak reach paths moved placed from to next-out next-in heads-out heads-in «open» order list : List ℕ}
+      (a : WalkScratch seen weak reach paths moved placed from to next-out next-in heads-out heads-in «open» order list) where
+    pub lay-room : LayRoom (wordsFor (s .count)) (s .count) (needRows needs) (matrices seen weak reach paths) from to heads-out next-out heads-in next-in
+    lay-room =
+        record {
+          space =
+              record {
+                seen-rows = matrix-rows (s .count) seen items-most (a .seen-size);
+                seen-most = omega (arith, a .seen-size);
+                weak-rows = matrix-rows (s .count) weak items-most (a .weak-size);
+                reach-rows = matrix-rows (s .count) reach items-most (a .reach-size);
+                paths-rows = matrix-rows (s .count) paths items-most (a .paths-size);
+              };
+          most = items-most;
+          needs-most = subst (λ (l : List Need). length l ≤ needLimit) (h .needs-are) (h .accepted .needs-most);
+          from-size = a .from-size;
+          to-size = a .to-size;
+          heads-out-size = a .heads-out-size;
+          next-out-size = a .next-out-size;
+          heads-in-size = a .heads-in-size;
+          next-in-size = a .next-in-size;
+        }
+
+    -- the needs laid out
+    module _ {to′ heads-out′ next-out′ from′ heads-in′ next-in′ paths′ weak′ : List ℕ}
+        (l : NeedsLaid (s .count) (needsAmong (take (s .count) rows) (needRows needs)) to′ heads-out′ next-out′ from′ heads-in′ next-in′ paths′ weak′
+        (64 * wordsFor (s .count))) where
+      group-laid : Laid (groupOf p modules) to′ heads-out′ next-out′ from′ heads-in′ next-in′ paths′ weak′ kinds low high (64 * wordsFor (s .count))
+      unfolding pathHolds weightOf isMaybe
+      group-laid =
+          let k : NeedsLaid (size (groupOf p modules)) (groupOf p modules .needs) to′ heads-out′ next-out′ from′ heads-in′ next-in′ paths′ weak′
+          (64 * wordsFor (s .count)) =
+          subst
+          (λ (n : ℕ). NeedsLaid n (groupOf p modules .needs) to′ heads-out′ next-out′ from′ heads-in′ next-in′ paths′ weak′ (64 * wordsFor (s .count)))
+          items-are
+          (subst
+          (λ (d : List Need). NeedsLaid (s .count) d to′ heads-out′ next-out′ from′ heads-in′ next-in′ paths′ weak′ (64 * wordsFor (s .count)))
+          group-needs l) in
+          record {
+            formed = wellFormed p modules (h .giving);
+            dependencies = k .dependencies;
+            dependants = k .dependants;
+            paths-shown = k .paths-shown;
+            weak-shown = k .weak-shown;
+            kinds-shown = h .numbered .splits .kinds-shown;
+            ranges-shown = h .numbered .splits .ranges-shown;
+          }
+
+      pub walkable : {part : List ℕ} → part ≡ take (length modules) starts
+          → Walkable (groupOf p modules) to′ heads-out′ next-out′ from′ heads-in′ next-in′ paths′ weak′ kinds low high part s (wordsFor (s .count))
+          placed moved «open» order list
+      walkable e =
+          record {
+            laid = group-laid;
+            listable = listable (h .accepted) (h .giving) (h .numbered .splits) e (a .list-size);
+            count-is = items-are;
+            placed-size = a .placed-size;
+            moved-size = rw (← items-are) (matrix-rows (s .count) moved items-most (a .moved-size) .size);
+            open-size = a .open-size;
+            order-size = a .order-size;
+            list-size = a .list-size;
+          }

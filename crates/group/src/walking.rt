@@ -1,0 +1,166 @@
+// The walk of a group's items from its first list on.
+ghost use Prim.Native.Nat.{_-_, _≤_};
+ghost use Rattle.rules.specs.Walk.{run as runs};
+ghost use Rattle.rules.specs.Project.{Project};
+ghost use Rattle.rules.specs.Items.{Group, groupOf, itemWalk, itemStart};
+ghost use Rattle.rules.specs.Calls.{itemListLimit};
+ghost use Rattle.stmt.specs.Walks.{Ended};
+ghost use Rattle.group.specs.Walking.{Walkable, GroupWalkable, WalkScratch};
+use graph::rows;
+use layout::lay_needs;
+use split::Split;
+use split::first_list;
+use stmt::walk::Ending;
+use stmt::walk::ItemWalk;
+use stmt::walk::run;
+
+// The words of a row of bits for all items.
+const ITEM_WORDS: usize = 4;
+
+// Walks the items of a group from its first list on, as the definition's run does. Where it has finished, `order` holds the numbers in their order;
+// else it is left free, and so is the rest of the state.
+fn walk_items(
+    to: &[u16],
+    heads_out: &[u16],
+    next_out: &[u16],
+    from: &[u16],
+    heads_in: &[u16],
+    next_in: &[u16],
+    paths: &[u64],
+    weak: &[u64],
+    kinds: &[u8],
+    low: &[u16],
+    high: &[u16],
+    starts: &[u16],
+    s: Split,
+    words: usize,
+    placed: &mut [u64],
+    moved: &mut [u64],
+    open: &mut [u16],
+    order: &mut [u16],
+    list: &mut [u16],
+    allowance: u32,
+    already: u32,
+) -> Ending
+    requires { ⌜ already ≤ allowance ⌝ }
+    requires { ⌜ ((g : Group) × Walkable g (now to) (now «heads_out») (now «next_out») (now from) (now «heads_in») (now «next_in») (now paths) (now weak)
+        (now kinds) (now low) (now high) (now starts) s words (now placed) (now moved) (now «open») (now order) (now list)) ⌝ }
+    ensures { λ r. ⌜ ((g : Group) → Walkable g (now (to .entry)) (now («heads_out» .entry)) (now («next_out» .entry)) (now (from .entry))
+        (now («heads_in» .entry)) (now («next_in» .entry)) (now (paths .entry)) (now (weak .entry)) (now (kinds .entry)) (now (low .entry))
+        (now (high .entry)) (now (starts .entry)) s words (now (placed .entry)) (now (moved .entry)) (now («open» .entry)) (now (order .entry))
+        (now (list .entry))
+        → Ended (runs (itemWalk g) itemListLimit (allowance - already) already (itemStart g)) (s .count) (now (order .exit)) r) ⌝ }
+{
+    let n = s.count;
+    rows::clear_words(placed, ITEM_WORDS);
+    rows::clear_words(moved, n * words);
+    let end = first_list(low, high, starts, s, list);
+    let start = ItemWalk::new(end);
+    run(
+        to,
+        heads_out,
+        next_out,
+        from,
+        heads_in,
+        next_in,
+        paths,
+        weak,
+        kinds,
+        low,
+        high,
+        64 * words,
+        placed,
+        moved,
+        open,
+        order,
+        list,
+        n,
+        start,
+        allowance,
+        already,
+    )
+}
+
+// Lays out the needs of modules whose items are numbered, and walks the items. Where the walk has finished, `order` holds the numbers in their order;
+// else it is left free, and so are all other slices.
+pub fn walk_group(
+    needs: &[u8],
+    modules: &[u8],
+    s: Split,
+    rows: &[u16],
+    kinds: &[u8],
+    low: &[u16],
+    high: &[u16],
+    starts: &[u16],
+    numbers: &[u16],
+    seen: &mut [u64],
+    weak: &mut [u64],
+    reach: &mut [u64],
+    paths: &mut [u64],
+    moved: &mut [u64],
+    placed: &mut [u64],
+    from: &mut [u16],
+    to: &mut [u16],
+    next_out: &mut [u16],
+    next_in: &mut [u16],
+    heads_out: &mut [u16],
+    heads_in: &mut [u16],
+    open: &mut [u16],
+    order: &mut [u16],
+    list: &mut [u16],
+    allowance: u32,
+    already: u32,
+) -> Ending
+    requires { ⌜ already ≤ allowance ⌝ }
+    requires { ⌜ ((p : Project) × GroupWalkable p (now needs) (now modules) (now rows) (now kinds) (now low) (now high) (now starts) (now numbers) s) ⌝ }
+    requires { ⌜ WalkScratch (now seen) (now weak) (now reach) (now paths) (now moved) (now placed) (now from) (now to) (now «next_out») (now «next_in»)
+        (now «heads_out») (now «heads_in») (now «open») (now order) (now list) ⌝ }
+    ensures { λ r. ⌜ ((p : Project) → GroupWalkable p (now (needs .entry)) (now (modules .entry)) (now (rows .entry)) (now (kinds .entry)) (now (low .entry))
+        (now (high .entry)) (now (starts .entry)) (now (numbers .entry)) s
+        → Ended (runs (itemWalk (groupOf p (now (modules .entry)))) itemListLimit (allowance - already) already (itemStart (groupOf p (now (modules .entry)))))
+        (s .count) (now (order .exit)) r) ⌝ }
+{
+    let n = s.count;
+    let words = (n + 63) / 64;
+    lay_needs(
+        needs,
+        rows,
+        n,
+        numbers,
+        words,
+        seen,
+        weak,
+        reach,
+        paths,
+        from,
+        to,
+        heads_out,
+        next_out,
+        heads_in,
+        next_in,
+    );
+    let k = modules.len();
+    walk_items(
+        to,
+        heads_out,
+        next_out,
+        from,
+        heads_in,
+        next_in,
+        paths,
+        weak,
+        kinds,
+        low,
+        high,
+        &starts[..k],
+        s,
+        words,
+        placed,
+        moved,
+        open,
+        order,
+        list,
+        allowance,
+        already,
+    )
+}

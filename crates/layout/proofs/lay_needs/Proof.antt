@@ -1,0 +1,90 @@
+-- `layout::lay_needs` meets its contract. Assumes nothing.
+use mathlib.Core.Path.{_∙_}
+use lib.ListN.{take}
+use Rattle.layout.specs.LayoutLaws.{needs-room, linkable, laid}
+use borrow.Author.Needs.{needs}
+use Rattle.layout.proofs.lay_needs.Statement.{statement}
+use Rattle.layout.proofs.lay_needs.Tie as tie
+
+-- the places before
+abbrev start-of : tie.After-clear → tie.Start
+start-of c = c .before .before .before .before .before .before .before .before .before .before .before .before .before .before .before .before .before .before
+
+abbrev cleared-of : tie.After-add-needs → tie.After-clear
+cleared-of c = c .before .before .before .before .before .before .before .before .before .before .before .before .before .before .before
+
+abbrev added-of : tie.After-slice-known24 → tie.After-add-needs
+added-of c = c .before .before .before .before .before .before .before .before .before .before .before .before .before .before .before .before .before .before .before .before .before .before .before .before .before .before .before
+
+clear-requires : tie.Need-clear-requires
+clear-requires c κs = search needs
+
+add-needs-requires : tie.Need-add-needs-requires
+add-needs-requires c κs =
+    let cleared = c .before .before .before .before .before .before .before .before .before .before .before .before .before .before in
+    let start = start-of cleared in
+    (start .pre .0, needs-room (start .pre .1) (cleared .clear .ensures))
+
+links-requires : tie.Need-links-requires
+links-requires c κs =
+    let added = c .before .before .before .before .before .before .before .before .before .before .before .before .before .before .before .before .before .before in
+    let start = start-of (cleared-of added) in
+    linkable (start .pre .1) (take (start .args .n) (start .args .rows .now)) (added .add-needs .ensures) (added .add-needs .kept .1 .1 .1 .1 .1 .1 .1 .1 .1 .0)
+    (added .add-needs .kept .1 .1 .1 .1 .1 .1 .1 .1 .1 .1 .0)
+
+same-length : tie.Need-same-length
+same-length c = added-of c .add-needs .kept .1 .1 .1 .1 .1 .0 ∙ cleared-of (added-of c) .clear .kept .0
+
+same-length-2 : tie.Need-same-length-2
+same-length-2 c = added-of c .add-needs .kept .1 .1 .1 .1 .1 .1 .0 ∙ cleared-of (added-of c) .clear .kept .1 .0
+
+same-length-3 : tie.Need-same-length-3
+same-length-3 c = added-of c .add-needs .kept .1 .1 .1 .1 .1 .1 .1 .0 ∙ cleared-of (added-of c) .clear .kept .1 .1 .0
+
+same-length-4 : tie.Need-same-length-4
+same-length-4 c = added-of c .add-needs .kept .1 .1 .1 .1 .1 .1 .1 .1 .0 ∙ cleared-of (added-of c) .clear .kept .1 .1 .1 .0
+
+same-length-5 : tie.Need-same-length-5
+same-length-5 c = search needs
+
+same-length-6 : tie.Need-same-length-6
+same-length-6 c = search needs
+
+same-length-7 : tie.Need-same-length-7
+same-length-7 c = search needs
+
+same-length-8 : tie.Need-same-length-8
+same-length-8 c = search needs
+
+same-length-9 : tie.Need-same-length-9
+same-length-9 c = search needs
+
+same-length-10 : tie.Need-same-length-10
+same-length-10 c = search needs
+
+returns : tie.Need-returns
+returns c =
+    let linked = c .before .before .before .before .before .before .before .before in
+    let added = linked .before .before .before .before .before .before .before .before .before .before .before .before .before .before .before .before .before .before .before in
+    let start = start-of (cleared-of added) in
+    laid (start .pre .1) (take (start .args .n) (start .args .rows .now)) (added .add-needs .ensures) (linked .links .kept .1 .1 .1 .0)
+    (linked .links .kept .1 .1 .1 .1 .1 .0) (linked .links .ensures)
+
+pub lay-needs-spec : {M : Type 1} → statement M
+lay-needs-spec =
+    tie.close
+    (tie.spec
+    clear-requires
+    add-needs-requires
+    links-requires
+    same-length
+    same-length-2
+    same-length-3
+    same-length-4
+    same-length-5
+    same-length-6
+    same-length-7
+    same-length-8
+    same-length-9
+    same-length-10
+    returns)

@@ -1,0 +1,40 @@
+-- The needs of a group, added to its graph. A graph is a list of needs, the one added last in front, as in rules' Paths. Assumes nothing.
+use Prim.Native.Nat.{ℕ, _+_, _≤_, _<_}
+use mathlib.Core.Path.{_≡_}
+use mathlib.Core.List.{List, [], _∷_, map}
+use lib.ListN.{length, drop}
+use Rattle.rules.specs.Lists.{consIf, keep}
+use Rattle.rules.specs.Project.{Need, needRows}
+use Rattle.rules.specs.Items.{isAmong, numbered}
+use Rattle.graph.specs.Graph.{Matrices, Shows}
+
+-- the needs whose two ends are among the rows, by their numbers
+abbrev pub needsAmong : List ℕ → List Need → List Need
+needsAmong rows needs = map (numbered rows) (keep (isAmong rows) needs)
+
+-- a graph with one need added, or with none where its ends are not among the rows
+unfoldable pub addNeed : List ℕ → List Need → Need → List Need
+addNeed rows graph n = consIf (isAmong rows n) (numbered rows n) graph
+
+unfoldable pub addNeeds : List ℕ → List Need → List Need → List Need
+addNeeds rows graph [] = graph
+addNeeds rows graph (n ∷ needs) = addNeeds rows (addNeed rows graph n) needs
+
+-- The arrays show a graph, and there is room for one more pair.
+pub record NeedRoom (words n : ℕ) (graph : List Need) (m : Matrices) (from to : List ℕ) (count : ℕ) : Type 0 where
+  pub shows : Shows words n graph m from to count
+  pub from-room : length graph < length from
+  pub to-room : length graph < length to
+
+-- The arrays show the graph without needs, and there is room for some needs.
+pub record NeedsRoom (words n : ℕ) (needs : List Need) (m : Matrices) (from to : List ℕ) : Type 0 where
+  pub shows : Shows words n [] m from to 0
+  pub from-room : length needs ≤ length from
+  pub to-room : length needs ≤ length to
+
+-- In the midst of adding the needs of a section: the rows before byte i are added.
+pub record Adding (rows : List ℕ) (section : List ℕ) (words n i : ℕ) (m : Matrices) (from to : List ℕ) (count : ℕ) : Type 0 where
+  pub graph : List Need
+  pub shows : Shows words n graph m from to count
+  pub left : length graph + length (needRows (drop i section)) ≤ length (needRows section)
+  pub same : addNeeds rows graph (needRows (drop i section)) ≡ addNeeds rows [] (needRows section)

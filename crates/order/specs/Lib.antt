@@ -1,0 +1,4 @@
+pub mod Orders
+pub mod TurnLaws
+pub mod LoopLaws
+pub mod ReadyLaws

@@ -1,0 +1,114 @@
+-- What sorting all groups of an order call relies on and comes to. Assumes nothing.
+use Prim.Native.Nat.{ℕ, _+_, _*_, _-_, _≤_, _<_}
+use mathlib.Core.Path.{_≡_}
+use mathlib.Core.Bool.{Bool, true, not, _&&_, _||_}
+use mathlib.Core.List.{List, [], _++_, reverse}
+use lib.Dec.{eqb}
+use lib.ListN.{length, getD, take, drop}
+use lib.Seq.{sets}
+use Rattle.rules.specs.Lists.{isEmpty, any, keep, elem}
+use Rattle.rules.specs.Project.{Item, Import, Project, moduleLimit, itemLimit, itemRow, importRow, pairRows, needRows}
+use Rattle.rules.specs.Walk.{Stop, finished, spent, full}
+use Rattle.rules.specs.Modules.{importsOf, isDone}
+use Rattle.rules.specs.Items.{isKept, keptRowsOf, givingModules, givenRows}
+use Rattle.rules.specs.Calls.{itemListLimit, groupBytes, orderGroups}
+use Rattle.laws.specs.Lists.{_∈_, Once}
+use Rattle.laws.specs.Counting.{Below}
+use Rattle.laws.specs.Terms.{Kept, moduleOf}
+use Rattle.laws.specs.Accepted.{Accepted}
+use Rattle.laws.specs.OrderCalls.{EachOnce}
+use Rattle.lists.specs.Bits.{bit}
+use Rattle.split.specs.Splits.{RowsAlong, ModuleChains}
+use Rattle.group.specs.declared.Ending.{Ending}
+use Rattle.group.specs.declared.Ending.the-variants.{Finished, Spent, Full}
+use Rattle.giving.specs.Giving.{Members, ImportersShown, Stored}
+use Rattle.order.specs.declared.Turn.{Turn}
+
+-- The groups of a project, as the bytes of a groups call, and its sections; `out` has a place for each item row.
+pub record Orderable (p : Project) (groups : List (List ℕ)) (items imports needs bytes : List ℕ) (count : ℕ) (out : List ℕ) : Type 0 where
+  pub accepted : Accepted p
+  pub items-are : p .items ≡ pairRows itemRow items
+  pub imports-are : p .imports ≡ pairRows importRow imports
+  pub needs-are : p .needs ≡ needRows needs
+  pub bytes-are : bytes ≡ groupBytes groups
+  pub bytes-most : length bytes ≤ moduleLimit * (moduleLimit + 1)
+  pub count-is : count ≡ length groups
+  pub each-once : EachOnce groups
+  pub members-below : (g : List ℕ) → g ∈ groups → Below (p .modules) g
+  pub out-size : length out ≡ itemLimit
+
+-- How the sort of all groups stops, as the definition does. Where it has finished, `out` begins with the rows and is else as it was; else what `out`
+-- holds is left free.
+pub data Ordered (stop : Stop (List ℕ)) (before after : List ℕ) : Ending → Type 0 where
+  has-finished : {made : ℕ} (rows : List ℕ) → stop ≡ finished rows made → after ≡ sets before 0 rows
+      → Ordered stop before after (Finished (length rows) made)
+  was-spent : {made : ℕ} → stop ≡ spent made → Ordered stop before after (Spent made)
+  was-full : {made : ℕ} → stop ≡ full made → Ordered stop before after (Full made)
+
+-- What every turn relies on: the groups' bytes, the rows of each module chained, the sets of the modules that import and of those that give items,
+-- and a place for each item row.
+pub record Ready (p : Project) (groups : List (List ℕ)) (items next heads bytes : List ℕ) (count importers givers : ℕ) (out : List ℕ) : Type 0 where
+  pub accepted : Accepted p
+  pub chains : (modules : List ℕ) → Below (p .modules) modules → ModuleChains p modules items next heads
+  pub bytes-are : bytes ≡ groupBytes groups
+  pub bytes-most : length bytes ≤ moduleLimit * (moduleLimit + 1)
+  pub count-is : count ≡ length groups
+  pub each-once : EachOnce groups
+  pub members-below : (g : List ℕ) → g ∈ groups → Below (p .modules) g
+  pub imports-shown : ImportersShown p importers
+  pub gives-shown : (m : ℕ) → bit givers m ≡ not (isEmpty (keptRowsOf p m))
+  pub out-size : length out ≡ itemLimit
+
+-- What a group's turn relies on: `earlier` are the groups before it, latest first.
+pub record Taking (p : Project) (earlier : List (List ℕ)) (members items next heads : List ℕ) (givers : ℕ) (t : Turn) (out : List ℕ) : Type 0 where
+  pub formed : Members members
+  pub used-shown : (m : ℕ) → bit (t .used) m ≡ isDone earlier m
+  pub gives-shown : (m : ℕ) → bit givers m ≡ not (isEmpty (keptRowsOf p m))
+  pub chains : ModuleChains p (givingModules p earlier members) items next heads
+  pub room : t .kept + length (givenRows p (givingModules p earlier members)) ≤ length out
+  pub some-left : 0 < t .left
+  pub place-most : t .place + 1 + length members ≤ moduleLimit * (moduleLimit + 1)
+
+-- the members of the group whose bytes begin at a place
+abbrev pub membersAt : List ℕ → ℕ → List ℕ
+membersAt bytes place = take (place + 1 + getD bytes place 0 - (place + 1)) (drop (place + 1) bytes)
+
+-- The turn after that of a group.
+pub record Advanced (members : List ℕ) (t : Turn) (kept made : ℕ) (r : Turn) : Type 0 where
+  pub place-is : r .place ≡ t .place + 1 + length members
+  pub left-is : r .left ≡ t .left - 1
+  pub used-is : (m : ℕ) → bit (r .used) m ≡ (elem m members || bit (t .used) m)
+  pub kept-is : r .kept ≡ kept
+  pub made-is : r .made ≡ made
+
+-- The turn of a group that keeps its row order: the rows of its modules are written, and no visit is made.
+pub record Took (p : Project) (earlier : List (List ℕ)) (members : List ℕ) (t : Turn) (before after : List ℕ) (r : Turn) : Type 0 where
+  pub written : Stored (givenRows p (givingModules p earlier members)) (t .kept) before after (r .kept)
+  pub advanced : Advanced members t (r .kept) (t .made) r
+
+-- The rows of the groups that had their turn.
+pub record Gave (p : Project) (earlier : List (List ℕ)) (rows : List ℕ) : Type 0 where
+  pub once : Once rows
+  pub kept : (row : ℕ) → row ∈ rows → Kept p row
+  pub done : (row : ℕ) → row ∈ rows → isDone earlier (moduleOf p row) ≡ true
+
+-- Between two turns: `earlier` are the groups that had theirs, latest first, and `rows` what they gave.
+pub record Turning (p : Project) (groups : List (List ℕ)) (bytes : List ℕ) (allowance : ℕ) (before after : List ℕ) (t : Turn) : Type 0 where
+  pub earlier : List (List ℕ)
+  pub rest : List (List ℕ)
+  pub rows : List ℕ
+  pub parts : groups ≡ reverse earlier ++ rest
+  pub bytes-left : drop (t .place) bytes ≡ groupBytes rest
+  pub left-is : t .left ≡ length rest
+  pub used-shown : (m : ℕ) → bit (t .used) m ≡ isDone earlier m
+  pub gave : Gave p earlier rows
+  pub out-is : Stored rows 0 before after (t .kept)
+  pub made-most : t .made ≤ allowance
+  pub same : orderGroups p itemListLimit allowance [] groups [] 0 ≡ orderGroups p itemListLimit allowance earlier rest rows (t .made)
+
+-- What the turns from one on rely on.
+pub record Resuming (p : Project) (groups : List (List ℕ)) (items needs next heads bytes : List ℕ) (importers givers allowance : ℕ) (before now : List ℕ)
+    (t : Turn) : Type 0 where
+  pub needs-are : p .needs ≡ needRows needs
+  pub ready : Ready p groups items next heads bytes (length groups) importers givers now
+  pub turning : Turning p groups bytes allowance before now t

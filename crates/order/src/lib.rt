@@ -1,0 +1,227 @@
+// The groups of an order call, sorted in turn (toposort_real_modules).
+use giving::kept;
+use group::Ending;
+use group::sort_stmts;
+use split::chains::chain_rows;
+ghost use Prim.Native.Nat.{ℕ, _+_, _*_, _≤_, _<_};
+ghost use mathlib.Core.List.{List, []};
+ghost use lib.ListN.{length};
+ghost use Rattle.rules.specs.Project.{Project, moduleLimit};
+ghost use Rattle.rules.specs.Calls.{itemListLimit, orderGroups};
+ghost use Rattle.giving.specs.Giving.{Members};
+ghost use Rattle.order.specs.Orders.{Orderable, Ordered, Ready, Taking, Advanced, Took, Turning, Resuming};
+
+// How far the turns have come: where the next group's bytes begin, how many groups are left, the modules that earlier groups list, the rows written
+// and the visits made.
+pub struct Turn {
+    pub place: usize,
+    pub left: usize,
+    pub used: u64,
+    pub kept: usize,
+    pub made: u32,
+}
+
+// The turn after a group's, which has left `kept` rows and `made` visits.
+fn after(t: Turn, members: &[u8], kept: usize, made: u32) -> Turn
+    requires { ⌜ Members (now members) ⌝ }
+    requires { ⌜ (0 < t .left) × (t .place + 1 + length (now members) ≤ moduleLimit * (moduleLimit + 1)) ⌝ }
+    ensures { λ r. ⌜ Advanced (now (members .entry)) t kept made r ⌝ }
+{
+    let used = giving::with_members(t.used, members);
+    Turn {
+        place: t.place + 1 + members.len(),
+        left: t.left - 1,
+        used,
+        kept,
+        made,
+    }
+}
+
+// The turn of a group that keeps its row order.
+fn keep_group(
+    items: &[u8],
+    next: &[u16],
+    heads: &[u16],
+    members: &[u8],
+    givers: u64,
+    t: Turn,
+    out: &mut [u8],
+) -> Turn
+    requires { ⌜ ((p : Project) × (earlier : List (List ℕ)) × Taking p earlier (now members) (now items) (now next) (now heads) givers t (now out)) ⌝ }
+    ensures { λ r. ⌜ ((p : Project) (earlier : List (List ℕ))
+        → Taking p earlier (now (members .entry)) (now (items .entry)) (now (next .entry)) (now (heads .entry)) givers t (now (out .entry))
+        → Took p earlier (now (members .entry)) t (now (out .entry)) (now (out .exit)) r) ⌝ }
+{
+    let mut modules = [0u8; 64];
+    let n = giving::giving(members, t.used, givers, &mut modules);
+    let kept = kept::write_given(items, next, heads, &modules[..n], out, t.kept);
+    after(t, members, kept, t.made)
+}
+
+// The turns of the groups before the first that is to be sorted; all groups where there is none.
+fn keep_groups(
+    items: &[u8],
+    next: &[u16],
+    heads: &[u16],
+    bytes: &[u8],
+    count: usize,
+    importers: u64,
+    givers: u64,
+    out: &mut [u8],
+) -> Turn
+    requires { ⌜ ((p : Project) × (groups : List (List ℕ)) × Ready p groups (now items) (now next) (now heads) (now bytes) count importers givers (now out)) ⌝ }
+    ensures { λ r. ⌜ ((p : Project) (groups : List (List ℕ)) (allowance : ℕ)
+        → Ready p groups (now (items .entry)) (now (next .entry)) (now (heads .entry)) (now (bytes .entry)) count importers givers (now (out .entry))
+        → Turning p groups (now (bytes .entry)) allowance (now (out .entry)) (now (out .exit)) r) ⌝ }
+{
+    let mut t = Turn {
+        place: 0,
+        left: count,
+        used: 0,
+        kept: 0,
+        made: 0,
+    };
+    while 0 < t.left {
+        let place = t.place;
+        let start = place + 1;
+        let end = start + bytes[place] as usize;
+        let members = &bytes[start..end];
+        if !giving::keeps_row_order(members, importers) {
+            return t;
+        }
+        t = keep_group(items, next, heads, members, givers, t, out);
+    }
+    t
+}
+
+// The turns of the groups from `first` on, some of them sorted. The arrays that a sort needs are made once.
+fn sort_rest(
+    items: &[u8],
+    needs: &[u8],
+    next: &[u16],
+    heads: &[u16],
+    bytes: &[u8],
+    importers: u64,
+    givers: u64,
+    first: Turn,
+    out: &mut [u8],
+    allowance: u32,
+) -> Ending
+    requires { ⌜ ((p : Project) × (groups : List (List ℕ)) × (before : List ℕ)
+        × Resuming p groups (now items) (now needs) (now next) (now heads) (now bytes) importers givers allowance before (now out) first) ⌝ }
+    ensures { λ r. ⌜ ((p : Project) (groups : List (List ℕ)) (before : List ℕ)
+        → Resuming p groups (now (items .entry)) (now (needs .entry)) (now (next .entry)) (now (heads .entry)) (now (bytes .entry)) importers givers allowance
+        before (now (out .entry)) first
+        → Ordered (orderGroups p itemListLimit allowance [] groups [] 0) before (now (out .exit)) r) ⌝ }
+{
+    let mut rows = [0u16; 256];
+    let mut kinds = [0u8; 256];
+    let mut low = [0u16; 256];
+    let mut high = [0u16; 256];
+    let mut starts = [0u16; 64];
+    let mut numbers = [0u16; 256];
+    let mut seen = [0u64; 1024];
+    let mut weak = [0u64; 1024];
+    let mut reach = [0u64; 1024];
+    let mut paths = [0u64; 1024];
+    let mut moved = [0u64; 1024];
+    let mut placed = [0u64; 4];
+    let mut from = [0u16; 2048];
+    let mut to = [0u16; 2048];
+    let mut next_out = [0u16; 2048];
+    let mut next_in = [0u16; 2048];
+    let mut heads_out = [0u16; 256];
+    let mut heads_in = [0u16; 256];
+    let mut open = [0u16; 256];
+    let mut order = [0u16; 256];
+    let mut list = [0u16; 16384];
+    let mut modules = [0u8; 64];
+    let mut t = first;
+    while 0 < t.left {
+        let place = t.place;
+        let start = place + 1;
+        let end = start + bytes[place] as usize;
+        let members = &bytes[start..end];
+        if giving::keeps_row_order(members, importers) {
+            t = keep_group(items, next, heads, members, givers, t, out);
+            continue;
+        }
+        let n = giving::giving(members, t.used, givers, &mut modules);
+        let e = sort_stmts(
+            items,
+            needs,
+            next,
+            heads,
+            &modules[..n],
+            &mut rows,
+            &mut kinds,
+            &mut low,
+            &mut high,
+            &mut starts,
+            &mut numbers,
+            &mut seen,
+            &mut weak,
+            &mut reach,
+            &mut paths,
+            &mut moved,
+            &mut placed,
+            &mut from,
+            &mut to,
+            &mut next_out,
+            &mut next_in,
+            &mut heads_out,
+            &mut heads_in,
+            &mut open,
+            &mut order,
+            &mut list,
+            out,
+            t.kept,
+            allowance,
+            t.made,
+        );
+        let Ending::Finished(kept, made) = e else {
+            return e;
+        };
+        t = after(t, members, kept, made);
+    }
+    Ending::Finished(t.kept, t.made)
+}
+
+// Sorts the groups in turn and writes the rows of their kept items to `out`. Where it stops, what `out` holds is left free.
+pub fn sort_groups(
+    items: &[u8],
+    imports: &[u8],
+    needs: &[u8],
+    groups: &[u8],
+    count: usize,
+    out: &mut [u8],
+    allowance: u32,
+) -> Ending
+    requires { ⌜ ((p : Project) × (gs : List (List ℕ)) × Orderable p gs (now items) (now imports) (now needs) (now groups) count (now out)) ⌝ }
+    ensures { λ r. ⌜ ((p : Project) (gs : List (List ℕ))
+        → Orderable p gs (now (items .entry)) (now (imports .entry)) (now (needs .entry)) (now (groups .entry)) count (now (out .entry))
+        → Ordered (orderGroups p itemListLimit allowance [] gs [] 0) (now (out .entry)) (now (out .exit)) r) ⌝ }
+{
+    let mut module_of = [0u16; 256];
+    let mut heads = [0u16; 64];
+    let mut next = [0u16; 256];
+    chain_rows(items, &mut module_of, &mut heads, &mut next);
+    let importers = giving::importers(imports);
+    let givers = giving::givers(items);
+    let first = keep_groups(items, &next, &heads, groups, count, importers, givers, out);
+    if first.left == 0 {
+        return Ending::Finished(first.kept, first.made);
+    }
+    sort_rest(
+        items,
+        needs,
+        &next,
+        &heads,
+        groups,
+        importers,
+        givers,
+        first,
+        out,
+        allowance,
+    )
+}
