@@ -2,8 +2,8 @@
 use Prim.Native.Nat.{ℕ, suc, _+_, _<_}
 use native.Mathlib.Omega.{arith}
 use native.Mathlib.Numerals.{add-one}
-use mathlib.Core.Path.{_≡_, refl, sym, ap, ap₂, _∙_}
-use mathlib.Core.List.{List, [], _∷_, _++_}
+use mathlib.Core.Path.{_≡_, sym, ap}
+use mathlib.Core.List.{List, _++_}
 use lib.ListN.{length, length-take, getD, take, drop, set}
 use lib.Seq.{take-suc, take-length, drop-cons, set-at, append-snoc}
 use Rattle.rules.specs.Calls.{overwrite}

@@ -1,17 +1,17 @@
 -- Laws for the proofs of the groups call. Assumes nothing.
-use Prim.Native.Nat.{ℕ, suc, _+_, _*_, _^_, _≤_, _<_, suc-le-suc}
+use Prim.Native.Nat.{ℕ, _+_, _*_, _^_, _≤_, _<_, suc-le-suc}
 use native.Mathlib.Omega.{arith}
 use native.Mathlib.Nat.{mul-le-mul, le-trans}
 use mathlib.Core.Path.{_≡_, refl, sym, ap, subst, _∙_}
 use mathlib.Core.Bool.{false}
-use mathlib.Core.List.{List, []}
-use lib.Dec.{ltb, lit≤}
+use mathlib.Core.List.{List}
+use lib.Dec.{lit≤}
 use lib.ListN.{length, take}
 use borrow.Author.Tests.{lt-ltb, le-ltb}
-use Rattle.rules.specs.Project.{Project, accepted, refused, read, projectOf, moduleLimit, importRow, pairRows, circleLists, badCircles, section}
+use Rattle.rules.specs.Project.{Project, accepted, refused, read, projectOf, moduleLimit, importRow, pairRows, circleLists, badCircles}
 use Rattle.rules.specs.Walk.{Stop, finished, spent, full}
-use Rattle.rules.specs.Modules.{ModuleState, groupsOf, groupsInOrder, runModules}
-use Rattle.rules.specs.Calls.{Answer, refusal, allowed, moduleListLimit, overwrite, groupBytes, groupsBytes, groupsAnswer, groupsOfProject, groupsCall}
+use Rattle.rules.specs.Modules.{ModuleState, groupsInOrder, runModules}
+use Rattle.rules.specs.Calls.{refusal, moduleListLimit, overwrite, groupBytes, groupsBytes, groupsAnswer, groupsOfProject, groupsCall}
 use Rattle.laws.specs.Accepted.{Accepted, read-accepted, read-passes}
 use Rattle.laws.specs.ModuleWalk.{groups-made, groups-fit}
 use Rattle.laws.specs.Calls.{groups-short, groups-long}
@@ -28,13 +28,13 @@ use Rattle.sort.specs.Groups.{Answerable}
 
 -- What a run's ending says.
 module _ {stop : Stop ModuleState} {shows : ModuleWalk → ModuleState → Type 0} where
-  finished-of : {w : ModuleWalk} {n : ℕ} → Ended stop shows (Finished w n) → (s : ModuleState) × (stop ≡ finished s n) × shows w s
+  pub finished-of : {w : ModuleWalk} {n : ℕ} → Ended stop shows (Finished w n) → (s : ModuleState) × (stop ≡ finished s n) × shows w s
   finished-of (has-finished s e h) = (s, e, h)
 
-  spent-of : {n : ℕ} → Ended stop shows (Spent n) → stop ≡ spent n
+  pub spent-of : {n : ℕ} → Ended stop shows (Spent n) → stop ≡ spent n
   spent-of (was-spent e) = e
 
-  full-of : {n : ℕ} → Ended stop shows (Full n) → stop ≡ full n
+  pub full-of : {n : ℕ} → Ended stop shows (Full n) → stop ≡ full n
   full-of (list-was-full e) = e
 
 -- A refusal writes nothing.
@@ -74,6 +74,15 @@ module _ {stop : Stop ModuleState} {out reply : List ℕ} where
   unfolding groupsAnswer
   answers-full {n} a = rw (full-of (a .ended)) (refuses 12 n 0 reply)
 
+-- What a grouping writes fits the array that is made for it.
+pub bytes-fit : {p : Project} → Accepted p → (allowance : ℕ) (s : ModuleState) (n : ℕ) → runModules p moduleListLimit allowance ≡ finished s n
+    → length (groupBytes (groupsInOrder s)) ≤ moduleLimit * (moduleLimit + 1)
+unfolding groupsBytes
+bytes-fit {p} a allowance s n f =
+    let most : p .modules ≤ moduleLimit = a .modules-most in
+    let more : p .modules + 1 ≤ moduleLimit + 1 = omega arith in
+    le-trans (groups-fit a moduleListLimit allowance s n f) (mul-le-mul most more)
+
 -- The grouping of an accepted project.
 module _ (bytes : List ℕ) {l : Layout} (a : Accepts bytes l) where
   abbrev p : Project
@@ -103,12 +112,10 @@ module _ (bytes : List ℕ) {l : Layout} (a : Accepts bytes l) where
       → Answerable (runModules p moduleListLimit allowance) out reply ending
   unfolding groupsBytes
   answerable allowance {reply = reply} size long e =
-      let most : p .modules ≤ moduleLimit = project-accepted .modules-most in
-      let more : p .modules + 1 ≤ moduleLimit + 1 = omega arith in
       record {
         ended = e;
         count = λ s n f. le-trans (groups-made project-accepted moduleListLimit allowance s n f .count) (project-accepted .modules-most);
-        within = λ s n f. rw size (le-trans (groups-fit project-accepted moduleListLimit allowance s n f) (mul-le-mul most more));
+        within = λ s n f. rw size (bytes-fit project-accepted allowance s n f);
         fits = λ s n f.
             le-trans (groups-fit project-accepted moduleListLimit allowance s n f) (subst (λ (m : ℕ). m * (m + 1) ≤ length reply) (a .modules) long);
       }

@@ -3,3 +3,7 @@ pub mod Guarantees
 pub mod CopyLaws
 pub mod Groups
 pub mod GroupLaws
+pub mod Orders
+pub mod OrderLaws
+pub mod Entries
+pub mod EntryLaws

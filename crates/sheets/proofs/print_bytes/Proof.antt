@@ -4,9 +4,6 @@ use borrow.Author.Needs.{needs}
 use lib.ListN.{length}
 use Rattle.sheets.proofs.print_bytes.Statement.{statement}
 use Rattle.sheets.proofs.print_bytes.Tie as tie
-use Rattle.sheets.proofs.print_bytes.Reads as reads
-use Rattle.sheets.proofs.print_bytes.Lts as lts
-use Rattle.sheets.proofs.print_number.Reads as print-number-reads
 
 abbrev Inv-loop : tie.InvT-loop
 Inv-loop bytes i₀ i = i ≤ length bytes
@@ -14,35 +11,27 @@ Inv-loop bytes i₀ i = i ≤ length bytes
 abbrev μ-loop : tie.MeasureT-loop
 μ-loop bytes i₀ i = length bytes - i
 
--- src/main.rt:39:5
 loop-holds : tie.Need-loop-holds Inv-loop μ-loop
 loop-holds c = omega arith
 
--- src/main.rt:40:22
 shared-slice-read-print-number : tie.Need-shared-slice-read-print-number Inv-loop μ-loop
 shared-slice-read-print-number c = omega arith
 
--- src/main.rt:40:22
 cast-print-number : tie.Need-cast-print-number Inv-loop μ-loop
 cast-print-number c = omega (arith, c .shared-slice-known2 .given (c .before .before .loop .i))
 
--- src/main.rt:40:9
 print-number-requires : tie.Need-print-number-requires Inv-loop μ-loop
 print-number-requires c κs = search needs
 
--- src/main.rt:41:9
 add-i : tie.Need-add-i Inv-loop μ-loop
 add-i c = omega arith
 
--- src/main.rt:39:5
 loop-less : tie.Need-loop-less Inv-loop μ-loop
 loop-less c = omega arith
 
--- src/main.rt:39:5
 loop-again : tie.Need-loop-again Inv-loop μ-loop
 loop-again c = omega arith
 
--- src/main.rt:37:1
 returns : tie.Need-returns Inv-loop μ-loop
 returns c = omega arith
 

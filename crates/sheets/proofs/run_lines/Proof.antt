@@ -5,64 +5,50 @@ use mathlib.Core.Path.{_≡_}
 use lib.ListN.{length}
 use Rattle.sheets.proofs.run_lines.Statement.{statement}
 use Rattle.sheets.proofs.run_lines.Tie as tie
-use Rattle.sheets.proofs.run_lines.Reads as reads
-use Rattle.sheets.proofs.run_lines.Lts as lts
-use Rattle.sheets.proofs.run_line.Reads as run-line-reads
-use Rattle.sheets.proofs.text.behind.Reads as behind-reads
-use Rattle.sheets.proofs.text.find.Reads as find-reads
 
 abbrev Inv-loop : tie.InvT-loop
-Inv-loop lines project₀ reply₀ at₀ project reply at =
-    (at ≤ length lines) × (length project ≡ length project₀) × (length reply ≡ length reply₀)
+Inv-loop lines project₀ reply₀ report₀ at₀ project reply report at =
+    (at ≤ length lines) × (length project ≡ length project₀) × (length reply ≡ length reply₀) × (length report ≡ length report₀)
 
 abbrev μ-loop : tie.MeasureT-loop
-μ-loop lines project₀ reply₀ at₀ project reply at = length lines - at
+μ-loop lines project₀ reply₀ report₀ at₀ project reply report at = length lines - at
 
--- src/main.rt:104:5
 loop-holds : tie.Need-loop-holds Inv-loop μ-loop
 loop-holds c = omega arith
 
--- src/main.rt:105:13
 find-requires : tie.Need-find-requires Inv-loop μ-loop
 find-requires c κs = search needs
 
--- src/main.rt:106:18
 sub-run-line : tie.Need-sub-run-line Inv-loop μ-loop
 sub-run-line c = omega arith
 
--- src/main.rt:106:18
 part-run-line-start : tie.Need-part-run-line-start Inv-loop μ-loop
 part-run-line-start c = omega arith
 
--- src/main.rt:106:18
 part-run-line-end : tie.Need-part-run-line-end Inv-loop μ-loop
 part-run-line-end c = omega arith
 
--- src/main.rt:106:9
 run-line-requires : tie.Need-run-line-requires Inv-loop μ-loop
 run-line-requires c κs = search needs
 
--- src/main.rt:107:9
 behind-requires : tie.Need-behind-requires Inv-loop μ-loop
 behind-requires c κs = search needs
 
--- src/main.rt:104:5
 loop-less : tie.Need-loop-less Inv-loop μ-loop
 loop-less c = omega arith
 
--- src/main.rt:104:5
 loop-again : tie.Need-loop-again Inv-loop μ-loop
 loop-again c = omega arith
 
--- src/main.rt:102:1
 same-length : tie.Need-same-length Inv-loop μ-loop
 same-length c = c .before .loop .inv .1
 
--- src/main.rt:102:1
 same-length-2 : tie.Need-same-length-2 Inv-loop μ-loop
 same-length-2 c = c .before .loop .inv .2
 
--- src/main.rt:102:1
+same-length-3 : tie.Need-same-length-3 Inv-loop μ-loop
+same-length-3 c = c .before .loop .inv .3
+
 returns : tie.Need-returns Inv-loop μ-loop
 returns c = omega arith
 
@@ -83,4 +69,5 @@ run-lines-spec =
     loop-again
     same-length
     same-length-2
+    same-length-3
     returns)

@@ -6,8 +6,6 @@ use lib.ListN.{length, length-set, take, drop}
 use Rattle.sort.specs.CopyLaws.{copied-more, copied-all}
 use Rattle.sort.proofs.copy_front.Statement.{statement}
 use Rattle.sort.proofs.copy_front.Tie as tie
-use Rattle.sort.proofs.copy_front.Reads as reads
-use Rattle.sort.proofs.copy_front.Lts as lts
 
 abbrev Inv-loop : tie.InvT-loop
 Inv-loop source reply₀ i₀ reply i =
@@ -16,38 +14,30 @@ Inv-loop source reply₀ i₀ reply i =
 abbrev μ-loop : tie.MeasureT-loop
 μ-loop source reply₀ i₀ reply i = length source - i
 
--- src/lib.rt:43:5
 loop-holds : tie.Need-loop-holds Inv-loop μ-loop
 loop-holds c = (refl, omega arith, refl)
 
--- src/lib.rt:44:20
 shared-slice-read-reply : tie.Need-shared-slice-read-reply Inv-loop μ-loop
 shared-slice-read-reply c = omega arith
 
--- src/lib.rt:44:9
 slice-write-reply : tie.Need-slice-write-reply Inv-loop μ-loop
 slice-write-reply c = omega arith
 
--- src/lib.rt:45:9
 add-i : tie.Need-add-i Inv-loop μ-loop
 add-i c = omega arith
 
--- src/lib.rt:43:5
 loop-less : tie.Need-loop-less Inv-loop μ-loop
 loop-less c = omega arith
 
--- src/lib.rt:43:5
 loop-again : tie.Need-loop-again Inv-loop μ-loop
 loop-again c =
     let l = c .before .before .loop in
     let a = c .before .before .before .args in
     (simp length-set (l .inv .0), omega arith, copied-more (a .source .now) (a .reply .now) (l .reply) (l .i) (omega arith) (omega arith) (l .inv .2))
 
--- src/lib.rt:38:1
 same-length : tie.Need-same-length Inv-loop μ-loop
 same-length c = c .before .loop .inv .0
 
--- src/lib.rt:38:1
 returns : tie.Need-returns Inv-loop μ-loop
 returns c =
     let l = c .before .loop in

@@ -6,67 +6,51 @@ use Rattle.sort.specs.GroupLaws.{groups-count, groups-within, groups-roo
 use borrow.Author.Needs.{needs}
 use Rattle.sort.proofs.give_groups.Statement.{statement}
 use Rattle.sort.proofs.give_groups.Tie as tie
-use Rattle.sort.proofs.give_groups.Reads as reads
-use Rattle.sort.proofs.give_groups.Lts as lts
-use Rattle.sort.proofs.copy_front.Reads as copy-front-reads
-use Rattle.sort.proofs.refusal.Reads as refusal-reads
 
--- src/lib.rt:102:26
 enum-known-ending : tie.Need-enum-known-ending
 enum-known-ending c = search needs
 
--- src/lib.rt:104:24
 slice-aggregate-copy-front : tie.Need-slice-aggregate-copy-front
 slice-aggregate-copy-front c =
     let s = c .before .before .before .before .before .before in
     let a = subst (Answerable _ _ _) (c .before .before .ending .given .1) (s .pre .1) in
     simp length-take (omega (arith, groups-within a))
 
--- src/lib.rt:104:13
 copy-front-requires : tie.Need-copy-front-requires
 copy-front-requires c κs =
     let s = c .before .before .before .before .before .before .before in
     let a = subst (Answerable _ _ _) (c .before .before .before .ending .given .1) (s .pre .1) in
     simp length-take (omega (arith, groups-room a))
 
--- src/lib.rt:108:25
 cast-t15 : tie.Need-cast-t15
 cast-t15 c =
     let s = c .before .before .before .before .before .before .before .before .before .before .before in
     let a = subst (Answerable _ _ _) (c .before .before .before .before .before .before .before .ending .given .1) (s .pre .1) in
     omega (arith, groups-count a)
 
--- src/lib.rt:113:23
 enum-known-ending-2 : tie.Need-enum-known-ending-2
 enum-known-ending-2 c = search needs
 
--- src/lib.rt:113:32
 refusal-requires : tie.Need-refusal-requires
 refusal-requires c κs = search needs
 
--- src/lib.rt:114:22
 enum-known-ending-3 : tie.Need-enum-known-ending-3
 enum-known-ending-3 c = search needs
 
--- src/lib.rt:114:31
 refusal-requires-2 : tie.Need-refusal-requires-2
 refusal-requires-2 c κs = search needs
 
--- src/lib.rt:95:1
 same-length : tie.Need-same-length
 same-length c = search needs
 
--- src/lib.rt:95:1
 returns : tie.Need-returns
 returns c stop h =
     answers-finished (subst (Answerable stop _ _) (c .before .before .before .before .before .before .before .ending .given .1) h)
     (c .before .before .before .copy-front .ensures)
 
--- src/lib.rt:95:1
 returns-2 : tie.Need-returns-2
 returns-2 c stop h = rw (c .refusal .ensures) (answers-spent (subst (Answerable stop _ _) (c .before .before .ending2 .given .1) h))
 
--- src/lib.rt:95:1
 returns-3 : tie.Need-returns-3
 returns-3 c stop h = rw (c .refusal2 .ensures) (answers-full (subst (Answerable stop _ _) (c .before .before .ending3 .given .1) h))
 

@@ -8,40 +8,28 @@ use borrow.Author.Needs.{needs}
 use Rattle.sort.proofs.groups.Statement.{statement}
 use Rattle.sort.proofs.groups.Tie as tie
 use Rattle.sort.proofs.groups.Reads as reads
-use Rattle.sort.proofs.groups.Lts as lts
-use Rattle.project.proofs.read.Reads as read-reads
-use Rattle.sort.proofs.allowed.Reads as allowed-reads
-use Rattle.sort.proofs.groups_of.Reads as groups-of-reads
-use Rattle.sort.proofs.refusal.Reads as refusal-reads
 
--- src/lib.rt:62:9
 read-requires : tie.Need-read-requires
 read-requires c κs = search needs
 
--- src/lib.rt:64:26
 enum-known-reading : tie.Need-enum-known-reading
 enum-known-reading c = search needs
 
--- src/lib.rt:64:32
 refusal-requires : tie.Need-refusal-requires
 refusal-requires c κs = search needs
 
--- src/lib.rt:65:27
 enum-known-reading-2 : tie.Need-enum-known-reading-2
 enum-known-reading-2 c = search needs
 
--- src/lib.rt:65:62
 allowed-requires : tie.Need-allowed-requires
 allowed-requires c κs = search needs
 
--- src/lib.rt:65:33
 groups-of-requires : tie.Need-groups-of-requires
 groups-of-requires c κs =
     let r = c .before .before .before in
     let s = r .before .before .before .before .before in
     answer-accepted (s .args .project .now) (sym (r .before .before .read .ensures) ∙ r .reading2 .given .1)
 
--- src/lib.rt:59:1
 returns : tie.Need-returns
 returns c =
     let r = c .before .before in
@@ -51,11 +39,9 @@ returns c =
     (call-refused (s .args .project .now) (s .args .reply .now) (s .args .allowance) _
     (answer-refused (s .args .project .now) (sym (r .before .before .read .ensures) ∙ r .reading .given .1))))
 
--- src/lib.rt:59:1
 same-length : tie.Need-same-length
 same-length c = search needs
 
--- src/lib.rt:59:1
 returns-2 : tie.Need-returns-2
 returns-2 c =
     let g = c .before .before in

@@ -2,10 +2,7 @@ use mathlib.Core.Path.{refl}
 use Rattle.rules.specs.Calls.{refusal}
 use Rattle.sort.proofs.refusal.Statement.{statement}
 use Rattle.sort.proofs.refusal.Tie as tie
-use Rattle.sort.proofs.refusal.Reads as reads
-use Rattle.sort.proofs.refusal.Lts as lts
 
--- src/lib.rt:18:1
 returns : tie.Need-returns
 unfolding refusal
 returns c = refl
