@@ -1,10 +1,12 @@
 //! What is compared for one project and for one byte string.
 
 use std::collections::BTreeMap;
+use std::fmt;
 
 use crate::demands;
 use crate::generate::Rng;
 use crate::plain::{self, Numbers, Project};
+use crate::shrink::hex;
 use crate::sides::{sides, Entry};
 
 #[derive(Clone, Copy, Debug, PartialEq, Eq, PartialOrd, Ord)]
@@ -22,7 +24,7 @@ impl Call {
         }
     }
 
-    fn plain_entry(self) -> Entry {
+    pub fn plain_entry(self) -> Entry {
         match self {
             Call::Groups => plain::groups_entry,
             Call::Order => plain::order_entry,
@@ -52,36 +54,114 @@ pub struct Seen {
 }
 
 /// What a call left: the answer and every byte.
-#[derive(Clone, Debug, PartialEq, Eq)]
+#[derive(Clone, PartialEq, Eq)]
 struct Left {
     answer: u32,
     reply: Vec<u8>,
     report: Vec<u8>,
 }
 
-/// What stands in replies and reports before a call.
-fn filler(length: usize) -> Vec<u8> {
-    (0..length).map(|i| (i * 37 + 201) as u8).collect()
-}
-
-fn make(entry: Entry, bytes: &[u8], lengths: (usize, usize), allowance: u32) -> Left {
-    let mut reply = filler(lengths.0);
-    let mut report = filler(lengths.1);
-    let answer = entry(bytes, &mut reply, &mut report, allowance);
-    Left {
-        answer,
-        reply,
-        report,
+impl fmt::Debug for Left {
+    fn fmt(&self, f: &mut fmt::Formatter) -> fmt::Result {
+        write!(f, "{}", self.answer)?;
+        if self.report.len() >= 20 {
+            write!(f, ", report {:?}", reported(&self.report))?;
+        }
+        write!(f, ", reply {}", hex(&self.reply))?;
+        write!(f, ", bytes of the report {}", hex(&self.report))
     }
 }
 
+/// What stands in replies and reports before a call. `salt` changes it from
+/// call to call.
+fn filler(length: usize, salt: u8) -> Vec<u8> {
+    let salt = salt as usize * 89 + 201;
+    (0..length).map(|i| (i * 37 + salt) as u8).collect()
+}
+
+/// The bytes that stand before every buffer, and behind it.
+const GUARD: usize = 32;
+
+/// A buffer between guard bytes.
+struct Guarded {
+    bytes: Vec<u8>,
+    salt: u8,
+}
+
+impl Guarded {
+    fn new(content: &[u8], salt: u8) -> Guarded {
+        let mut bytes = Guarded::guard(salt);
+        bytes.extend(content);
+        bytes.extend(Guarded::guard(!salt));
+        Guarded { bytes, salt }
+    }
+
+    fn guard(salt: u8) -> Vec<u8> {
+        filler(GUARD, salt.wrapping_mul(29))
+    }
+
+    fn end(&self) -> usize {
+        self.bytes.len() - GUARD
+    }
+
+    fn lend(&self) -> &[u8] {
+        &self.bytes[GUARD..self.end()]
+    }
+
+    fn lend_mut(&mut self) -> &mut [u8] {
+        let end = self.end();
+        &mut self.bytes[GUARD..end]
+    }
+
+    fn guards_stand(&self) -> bool {
+        self.bytes[..GUARD] == Guarded::guard(self.salt)
+            && self.bytes[self.end()..] == Guarded::guard(!self.salt)
+    }
+}
+
+/// Makes one call. The project and all guard bytes have to stay as they were.
+fn make(
+    entry: Entry,
+    bytes: &[u8],
+    lengths: (usize, usize),
+    allowance: u32,
+    salt: u8,
+) -> Result<Left, String> {
+    let project = Guarded::new(bytes, salt);
+    let mut reply = Guarded::new(&filler(lengths.0, salt), salt);
+    let mut report = Guarded::new(&filler(lengths.1, salt), salt);
+    let answer = entry(
+        project.lend(),
+        reply.lend_mut(),
+        report.lend_mut(),
+        allowance,
+    );
+    if project.lend() != bytes {
+        return Err("the project's bytes have changed".into());
+    }
+    for (name, buffer) in [
+        ("project", &project),
+        ("reply", &reply),
+        ("report", &report),
+    ] {
+        if !buffer.guards_stand() {
+            return Err(format!("bytes outside the {name} have changed"));
+        }
+    }
+    Ok(Left {
+        answer,
+        reply: reply.lend().to_vec(),
+        report: report.lend().to_vec(),
+    })
+}
+
 /// The five numbers in a report of 20 bytes or more.
-fn reported(report: &[u8]) -> Numbers {
+pub fn reported(report: &[u8]) -> Numbers {
     std::array::from_fn(|i| u32::from_le_bytes(report[4 * i..4 * i + 4].try_into().unwrap()))
 }
 
 /// The number of bytes that a given answer writes.
-fn written(call: Call, numbers: &Numbers, reply: &[u8]) -> usize {
+pub fn written(call: Call, numbers: &Numbers, reply: &[u8]) -> usize {
     match call {
         Call::Order => numbers[1] as usize,
         Call::Groups => (0..numbers[2]).fold(0, |at, _| at + 1 + reply[at] as usize),
@@ -98,7 +178,14 @@ fn call(
     lengths: (usize, usize),
     allowance: u32,
 ) -> Result<Option<(Numbers, Vec<u8>)>, String> {
-    let left = make(call.plain_entry(), bytes, lengths, allowance);
+    let what =
+        format_args!("{call:?} call, allowance {allowance}, reply and report of {lengths:?} bytes");
+    let salt = seen.calls as u8;
+    let make = |name: &str, entry| {
+        make(entry, bytes, lengths, allowance, salt)
+            .map_err(|wrong| format!("{what}: {name}: {wrong}"))
+    };
+    let left = make("plain", call.plain_entry())?;
     seen.calls += 1;
     *seen.answers.entry((call, left.answer)).or_default() += 1;
     for side in sides() {
@@ -106,17 +193,12 @@ fn call(
             Call::Groups => side.groups,
             Call::Order => side.order,
         };
-        let other = make(entry, bytes, lengths, allowance);
+        let other = make(side.name, entry)?;
         if other != left {
-            return Err(format!(
-                "{call:?} call, allowance {allowance}, reply and report of {lengths:?} bytes:\n\
-                 plain {left:?}\n{} {other:?}",
-                side.name
-            ));
+            return Err(format!("{what}:\nplain {left:?}\n{} {other:?}", side.name));
         }
     }
-    always(call, lengths, &left)
-        .map_err(|rule| format!("{call:?} call, allowance {allowance}: {rule}\nplain {left:?}"))
+    always(call, lengths, &left, salt).map_err(|rule| format!("{what}: {rule}\nplain {left:?}"))
 }
 
 /// What holds after every call.
@@ -124,8 +206,9 @@ fn always(
     call: Call,
     lengths: (usize, usize),
     left: &Left,
+    salt: u8,
 ) -> Result<Option<(Numbers, Vec<u8>)>, String> {
-    let (reply, report) = (filler(lengths.0), filler(lengths.1));
+    let (reply, report) = (filler(lengths.0, salt), filler(lengths.1, salt));
     if (left.answer == 13) != (lengths.1 < 20) {
         return Err("13 is for reports under 20 bytes".into());
     }
@@ -242,8 +325,8 @@ fn check_allowances(
     Ok(whole)
 }
 
-/// Replies of exactly the least length, one short, and empty; reports of 20,
-/// 19 and no bytes.
+/// Replies of exactly the least length, one short, of 0, 19 and 20 bytes;
+/// reports of 20, 19 and no bytes.
 fn check_lengths(
     seen: &mut Seen,
     kind: Call,
@@ -255,11 +338,15 @@ fn check_lengths(
     if exact.0[0] == 10 {
         return Err(format!("{kind:?} call: 10 with a reply of {least} bytes"));
     }
-    for short in [least.saturating_sub(1), 0] {
-        let refused = call(seen, kind, bytes, (short, 20), 0)?.expect("20 bytes");
-        if short < least && refused.0 != [10, 0, 0, 0, 0] {
+    for length in [least.saturating_sub(1), 0, 19, 20] {
+        let found = call(seen, kind, bytes, (length, 20), 0)?.expect("20 bytes");
+        let expected = match length < least {
+            true => ([10, 0, 0, 0, 0], Vec::new()),
+            false => exact.clone(),
+        };
+        if found != expected {
             return Err(format!(
-                "{kind:?} call: {refused:?} with a reply of {short} of {least} bytes"
+                "{kind:?} call: {found:?} with a reply of {length} bytes, least {least}"
             ));
         }
     }
@@ -299,12 +386,19 @@ pub fn check_bytes(seen: &mut Seen, bytes: &[u8], seed: u64) -> Result<(), Strin
 
 /// The original's view of one project.
 #[cfg(has_original)]
-struct Original(crate::original::Given);
+struct Original {
+    given: crate::original::Given,
+    /// The number of groups and the module visits, once a grouping has ended.
+    grouping: std::cell::Cell<Option<(u32, u32)>>,
+}
 
 #[cfg(has_original)]
 impl Original {
     fn new(project: &Project) -> Original {
-        Original(crate::original::Given::new(project))
+        Original {
+            given: crate::original::Given::new(project),
+            grouping: Default::default(),
+        }
     }
 
     /// Runs the original up to the allowance and the list limits, and compares
@@ -333,47 +427,49 @@ impl Original {
 
     /// The original's answer in the form of document 01.
     fn call(&self, kind: Call, allowance: u32) -> Result<(Numbers, Vec<u8>), String> {
-        use crate::original;
-        let allowance = match allowance {
-            0 => plain::USUAL_ALLOWANCE,
-            given => given,
-        };
-        let groups = original::groups(&self.0, allowance);
-        let group_count = match &groups.end {
-            original::End::Ended(groups) => groups.len() as u32,
-            _ => 0,
-        };
+        use crate::original::End;
+        let allowance = plain::Visits::new(allowance).allowance;
         let (end, module_visits, item_visits) = match kind {
-            Call::Groups => {
-                let bytes = ended(groups.end, |groups| {
-                    let lists = groups.into_iter();
-                    lists.flat_map(|g| [&[g.len()], &g[..]].concat()).collect()
-                });
-                (bytes, groups.module_visits, groups.item_visits)
-            }
+            Call::Groups => self.groups(allowance),
             Call::Order => {
-                let order = original::order(&self.0, allowance);
-                if order.module_visits != groups.module_visits {
-                    return Err("the original's two functions differ in module visits".into());
-                }
-                (order.end, order.module_visits, order.item_visits)
+                let run = crate::original::order(&self.given, allowance);
+                (run.end, run.module_visits, run.item_visits)
             }
         };
-        let visits = [module_visits, item_visits];
-        let refused = |answer| ([answer, 0, 0, visits[0], visits[1]], Vec::new());
-        Ok(match end {
-            original::End::Spent => refused(11),
-            original::End::Full => refused(12),
-            original::End::Panicked => return Err(format!("{kind:?}: the original panics")),
-            original::End::Ended(numbers) => {
-                let kept = match kind {
-                    Call::Groups => 0,
-                    Call::Order => numbers.len() as u32,
-                };
-                let bytes = numbers.into_iter().map(|n| n as u8).collect();
-                ([0, kept, group_count, visits[0], visits[1]], bytes)
-            }
-        })
+        let refused = |answer| ([answer, 0, 0, module_visits, item_visits], Vec::new());
+        let numbers = match end {
+            End::Spent => return Ok(refused(11)),
+            End::Full => return Ok(refused(12)),
+            End::Panicked => return Err(format!("{kind:?}: the original panics")),
+            End::Ended(numbers) => numbers,
+        };
+        if self.grouping.get().is_none() {
+            self.groups(allowance);
+        }
+        let Some((groups, visits)) = self.grouping.get() else {
+            return Err("the original gives an order and no grouping".into());
+        };
+        if visits != module_visits {
+            return Err("the original's two functions differ in module visits".into());
+        }
+        let kept = match kind {
+            Call::Groups => 0,
+            Call::Order => numbers.len() as u32,
+        };
+        let bytes = numbers.into_iter().map(|n| n as u8).collect();
+        Ok(([0, kept, groups, module_visits, item_visits], bytes))
+    }
+
+    /// A grouping, as the numbers that a reply gets.
+    fn groups(&self, allowance: u32) -> (crate::original::End<Vec<usize>>, u32, u32) {
+        let run = crate::original::groups(&self.given, allowance);
+        let end = ended(run.end, |groups| {
+            self.grouping
+                .set(Some((groups.len() as u32, run.module_visits)));
+            let lists = groups.into_iter();
+            lists.flat_map(|g| [&[g.len()], &g[..]].concat()).collect()
+        });
+        (end, run.module_visits, run.item_visits)
     }
 }
 

@@ -168,7 +168,7 @@ fn close(rows: &mut [u64]) {
 }
 
 /// The sets of two or more modules that reach one another.
-fn classes(project: &Project) -> Vec<Vec<usize>> {
+pub fn classes(project: &Project) -> Vec<Vec<usize>> {
     let reach = reaches(project);
     let mut seen = 0u64;
     let mut found = Vec::new();

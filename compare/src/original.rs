@@ -101,24 +101,36 @@ mod chunk {
     }
 }
 
+/// Needs in row order. An item's row says which list its group's are in.
+#[derive(Default)]
+struct Needs {
+    lists: Vec<Vec<(usize, usize, u8)>>,
+    list_of: Vec<usize>,
+}
+
 thread_local! {
     /// The needs of the project that is being sorted.
-    static NEEDS: RefCell<Vec<(usize, usize, u8)>> = const { RefCell::new(Vec::new()) };
+    static NEEDS: RefCell<Rc<Needs>> = RefCell::default();
 }
 
 /// "`calc_deps` replaced by a graph of the group's kept items and, in row
 /// order, the needs whose two ends are among them".
 fn calc_deps(new: &[ast::ModuleItem]) -> StmtDepGraph {
+    const NONE: u16 = u16::MAX;
     let mut graph = StmtDepGraph::default();
-    let mut number_of = [None; 256];
+    let mut number_of = [NONE; 256];
     for (number, item) in new.iter().enumerate() {
         graph.add_node(number);
-        number_of[ast::row(item)] = Some(number);
+        number_of[ast::row(item)] = number as u16;
     }
+    let Some(first) = new.first() else {
+        return graph;
+    };
     NEEDS.with_borrow(|needs| {
-        for &(x, d, weight) in needs {
-            if let (Some(x), Some(d)) = (number_of[x], number_of[d]) {
-                graph.add_edge(x, d, required(weight));
+        for &(x, d, weight) in &needs.lists[needs.list_of[ast::row(first)]] {
+            let (x, d) = (number_of[x], number_of[d]);
+            if x != NONE && d != NONE {
+                graph.add_edge(x as usize, d as usize, required(weight));
             }
         }
     });
@@ -158,7 +170,7 @@ pub struct Given {
     graph: ModuleGraph,
     cycles: Vec<Vec<ModuleId>>,
     items: Vec<(usize, u8)>,
-    needs: Vec<(usize, usize, u8)>,
+    needs: Rc<Needs>,
 }
 
 impl Given {
@@ -180,7 +192,31 @@ impl Given {
                 .map(|list| list.iter().map(|&m| id(m)).collect())
                 .collect(),
             items: project.items.clone(),
-            needs: project.needs.clone(),
+            needs: Rc::new(Needs {
+                lists: vec![project.needs.clone()],
+                list_of: vec![0; project.items.len()],
+            }),
+        }
+    }
+
+    /// The same with each group's needs in a list of its own, so that a group
+    /// does not look through those of others. `group_of` gives the group of
+    /// each item.
+    pub fn grouped(project: &Project, group_of: Vec<usize>) -> Given {
+        let groups = group_of.iter().map(|group| group + 1).max().unwrap_or(0);
+        let mut lists = vec![Vec::new(); groups];
+        for &(x, d, weight) in &project.needs {
+            if group_of[x] == group_of[d] {
+                lists[group_of[x]].push((x, d, weight));
+            }
+        }
+        let needs = Rc::new(Needs {
+            lists,
+            list_of: group_of,
+        });
+        Given {
+            needs,
+            ..Given::new(project)
         }
     }
 
@@ -213,10 +249,32 @@ pub fn groups(given: &Given, allowance: u32) -> Run<Vec<Vec<usize>>> {
 /// The row numbers in the order of `toposort_real_modules`.
 pub fn order(given: &Given, allowance: u32) -> Run<Vec<usize>> {
     run(allowance, || {
-        NEEDS.with_borrow_mut(|needs| needs.clone_from(&given.needs));
+        NEEDS.set(given.needs.clone());
         let chunks = chunk::order(given.bodies(), given.entry, &given.graph, &given.cycles);
         let stmts = chunks.iter().flat_map(|chunk| &chunk.stmts);
         stmts.map(ast::row).collect()
+    })
+}
+
+/// The modules' bodies, which a sort takes and uses up.
+pub struct Bodies(Vec<(ModuleId, Module)>);
+
+impl Given {
+    pub fn fresh_bodies(&self) -> Bodies {
+        Bodies(self.bodies())
+    }
+}
+
+/// What `toposort_real_modules` has returned.
+pub struct Sorted {
+    _chunks: Vec<chunk::Chunk>,
+}
+
+/// `toposort_real_modules` and nothing else, on bodies made before.
+pub fn order_only(given: &Given, bodies: Bodies, allowance: u32) -> Run<Sorted> {
+    NEEDS.set(given.needs.clone());
+    run(allowance, || Sorted {
+        _chunks: chunk::order(bodies.0, given.entry, &given.graph, &given.cycles),
     })
 }
 

@@ -168,6 +168,53 @@ fn simplify(smallest: &mut Project, still_fails: StillFails) {
     }
 }
 
+/// The smallest failing byte string that is found by taking bytes away and by
+/// lowering single ones. For strings that are no project.
+pub fn shrink_bytes(bytes: Vec<u8>, still_fails: &mut dyn FnMut(&[u8]) -> bool) -> Vec<u8> {
+    let mut smallest = bytes;
+    loop {
+        let before = smallest.clone();
+        take_bytes(&mut smallest, still_fails);
+        lower_bytes(&mut smallest, still_fails);
+        if smallest == before {
+            return smallest;
+        }
+    }
+}
+
+/// Takes away runs of bytes, long runs first, the last first.
+fn take_bytes(smallest: &mut Vec<u8>, still_fails: &mut dyn FnMut(&[u8]) -> bool) {
+    let mut length = smallest.len();
+    while length > 0 {
+        let mut end = smallest.len();
+        while end >= length {
+            let mut changed = smallest.clone();
+            changed.drain(end - length..end);
+            if still_fails(&changed) {
+                *smallest = changed;
+            }
+            end -= length;
+        }
+        length /= 2;
+    }
+}
+
+fn lower_bytes(smallest: &mut [u8], still_fails: &mut dyn FnMut(&[u8]) -> bool) {
+    for at in 0..smallest.len() {
+        let old = smallest[at];
+        for value in [0, 1, old / 2, old.saturating_sub(1)] {
+            if value < smallest[at] {
+                let mut changed = smallest.to_vec();
+                changed[at] = value;
+                if still_fails(&changed) {
+                    smallest[at] = value;
+                    break;
+                }
+            }
+        }
+    }
+}
+
 /// The number of things in a project, to tell which of two is smaller.
 pub fn weight(project: &Project) -> usize {
     project.modules

@@ -10,8 +10,18 @@ pub struct Side {
     pub order: Entry,
 }
 
-/// All sides but the plain rendering itself. A further side is a module of its
-/// own with these two entries, and one line here.
+/// The proved code, as `rt staticlib sort` hands it to a host.
+#[cfg(feature = "archive")]
+pub const ARCHIVE: Side = Side {
+    name: "archive",
+    groups: escarpim::entry::groups,
+    order: escarpim::entry::order,
+};
+
+/// All sides but the plain rendering itself.
 pub fn sides() -> &'static [Side] {
-    &[]
+    &[
+        #[cfg(feature = "archive")]
+        ARCHIVE,
+    ]
 }

@@ -1,6 +1,6 @@
 //! Compares the sides on random projects and byte strings.
 //!
-//! compare [--projects N] [--bytes N] [--largest N] [--seed S]
+//! compare [--long] [--projects N] [--bytes N] [--largest N] [--seed S]
 
 use std::process::exit;
 use std::time::{Duration, Instant};
@@ -21,13 +21,19 @@ struct Options {
 fn options() -> Options {
     let mut options = Options {
         projects: 20_000,
-        bytes: 20_000,
+        bytes: 100_000,
         largest: 20,
         seed: 1,
     };
     let mut words = std::env::args().skip(1);
     while let Some(word) = words.next() {
         let place = match word.as_str() {
+            "--long" => {
+                options.projects = 1_000_000;
+                options.bytes = 1_000_000;
+                options.largest = 500;
+                continue;
+            }
             "--projects" => &mut options.projects,
             "--bytes" => &mut options.bytes,
             "--largest" => &mut options.largest,
@@ -44,12 +50,13 @@ fn options() -> Options {
 
 fn fail(message: &str) -> ! {
     eprintln!("compare: {message}");
-    eprintln!("usage: compare [--projects N] [--bytes N] [--largest N] [--seed S]");
+    eprintln!("usage: compare [--long] [--projects N] [--bytes N] [--largest N] [--seed S]");
     exit(2)
 }
 
 /// Prints a line now and then in long runs.
 struct Progress {
+    begin: Instant,
     next: Instant,
 }
 
@@ -57,15 +64,16 @@ impl Progress {
     const EVERY: Duration = Duration::from_secs(10);
 
     fn new() -> Progress {
-        Progress {
-            next: Instant::now() + Self::EVERY,
-        }
+        let begin = Instant::now();
+        let next = begin + Self::EVERY;
+        Progress { begin, next }
     }
 
     fn step(&mut self, what: &str, done: u64, of: u64) {
         if Instant::now() >= self.next {
-            eprintln!("{done} of {of} {what}");
-            self.next = Instant::now() + Self::EVERY;
+            let seconds = self.begin.elapsed().as_secs();
+            eprintln!("{done} of {of} {what}, no difference, {seconds} s");
+            self.next += Self::EVERY;
         }
     }
 }
@@ -122,14 +130,29 @@ fn compare_project(seen: &mut Seen, project: &Project, seed: u64) {
 }
 
 fn compare_bytes(seen: &mut Seen, bytes: &[u8], seed: u64) {
-    if let Err(difference) = check_bytes(seen, bytes, seed) {
-        println!("DIFFERENCE on these bytes\n{}", shrink::hex(bytes));
-        match plain::read(bytes) {
-            Ok(project) => report_project(&project, seed, &difference),
-            Err(number) => println!("plain reads them as {number}\n{difference}"),
+    let Err(difference) = check_bytes(seen, bytes, seed) else {
+        return;
+    };
+    if let Ok(project) = plain::read(bytes) {
+        if check_project(&mut Seen::default(), &project, seed).is_err() {
+            report_project(&project, seed, &difference);
         }
-        exit(1);
     }
+    report_bytes(bytes, seed, &difference);
+}
+
+/// Prints the smallest byte string that still fails, and ends.
+fn report_bytes(bytes: &[u8], seed: u64, difference: &str) -> ! {
+    let fails = |b: &[u8]| check_bytes(&mut Seen::default(), b, seed).err();
+    let smallest = shrink::shrink_bytes(bytes.to_vec(), &mut |b| fails(b).is_some());
+    println!("DIFFERENCE on these bytes");
+    println!("{}", shrink::hex(&smallest));
+    match plain::read(&smallest) {
+        Ok(project) => println!("{}", shrink::rows(&project)),
+        Err(number) => println!("they are no project: {number}"),
+    }
+    println!("{}", fails(&smallest).as_deref().unwrap_or(difference));
+    exit(1);
 }
 
 /// Prints the smallest project that still fails, and ends.
@@ -164,10 +187,10 @@ fn summary(seen: &Seen, time: Duration) {
             seen.original_ended, seen.original_spent, seen.original_full, seen.original_cut
         );
     }
-    let names: Vec<&str> = sides().iter().map(|side| side.name).collect();
-    println!("sides beside plain and the original: {names:?}");
-    match HAS_ORIGINAL {
-        true => println!("no difference"),
-        false => println!("no difference, but the original is not there"),
+    let mut sides: Vec<&str> = sides().iter().map(|side| side.name).collect();
+    sides.push("the plain rendering of document 01");
+    if HAS_ORIGINAL {
+        sides.push("the original");
     }
+    println!("no difference between {}", sides.join(", "));
 }
