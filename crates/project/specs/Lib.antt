@@ -1,8 +1,10 @@
 pub mod Kinds
+pub mod Readers
 pub mod Answers
 pub mod Sections
 pub mod Passed
 pub mod KindLaws
 pub mod RowLaws
+pub mod ReaderLaws
 pub mod SectionLaws
 pub mod ReadLaws

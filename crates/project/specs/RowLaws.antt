@@ -11,10 +11,6 @@ use borrow.Author.Tests.{le-leb, lt-leb}
 use Rattle.rules.specs.Lists.{any}
 use Rattle.rules.specs.Project.{needRow, pairRows, needRows, badCircles}
 
--- How far a scan for bad rows has come: what is left from byte i on is bad where the whole section is.
-abbrev pub Scanned : (List ℕ → Bool) → List ℕ → ℕ → Type 0
-Scanned bad section i = (i ≤ length section) × (bad section ≡ bad (drop i section))
-
 -- A test of rows, by what the first of them says.
 module _ {A : Type 0} (test : A → Bool) {x : A} {l rows : List A} (first : rows ≡ x ∷ l) where
   pub any-here : test x ≡ true → any test rows ≡ true

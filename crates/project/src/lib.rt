@@ -1,6 +1,7 @@
 // Reading a project's bytes: numbers 1 to 9 of the paper's table, and where the sections stand.
 mod header;
 pub mod kinds;
+mod reader;
 mod rows;
 
 ghost use mathlib.Core.Path.{_≡_};

@@ -2,6 +2,8 @@
 // joined by `|`, as in their definitions.
 use super::kinds;
 use super::kinds::Kind;
+use super::reader;
+use super::reader::Check;
 ghost use mathlib.Core.Path.{_≡_};
 ghost use Rattle.rules.specs.Lists.{any};
 ghost use Rattle.rules.specs.Project.{itemRow, importRow, needRow, pairRows, needRows, badItem, badImport, badCircles, badNeed};
@@ -22,21 +24,21 @@ fn is_refused(k: Kind) -> bool
 }
 
 // 6, of one row.
-fn bad_item(in_module: u8, kind: u8, modules: u8) -> bool
+pub fn bad_item(in_module: u8, kind: u8, modules: u8) -> bool
     ensures { λ r. ⌜ r ≡ badItem modules (itemRow «in_module» kind) ⌝ }
 {
     (modules <= in_module) | is_refused(kinds::kind_of(kind))
 }
 
 // 7, of one row.
-fn bad_import(importer: u8, imported: u8, modules: u8) -> bool
+pub fn bad_import(importer: u8, imported: u8, modules: u8) -> bool
     ensures { λ r. ⌜ r ≡ badImport modules (importRow importer imported) ⌝ }
 {
     (modules <= importer) | (modules <= imported) | (importer == imported)
 }
 
 // 9, of one row.
-fn bad_need(dependant: u8, dependency: u8, weight: u8, items: u16) -> bool
+pub fn bad_need(dependant: u8, dependency: u8, weight: u8, items: u16) -> bool
     ensures { λ r. ⌜ r ≡ badNeed items (needRow dependant dependency weight) ⌝ }
 {
     (items <= dependant as u16)
@@ -49,28 +51,14 @@ fn bad_need(dependant: u8, dependency: u8, weight: u8, items: u16) -> bool
 pub fn bad_items(section: &[u8], modules: u8) -> bool
     ensures { λ r. ⌜ r ≡ any (badItem modules) (pairRows itemRow (now (section .entry))) ⌝ }
 {
-    let mut i = 0;
-    while i + 1 < section.len() {
-        if bad_item(section[i], section[i + 1], modules) {
-            return true;
-        }
-        i += 2;
-    }
-    false
+    reader::any_bad(section, Check::Items(modules))
 }
 
 // 7, "an end not below M, or equal ends".
 pub fn bad_imports(section: &[u8], modules: u8) -> bool
     ensures { λ r. ⌜ r ≡ any (badImport modules) (pairRows importRow (now (section .entry))) ⌝ }
 {
-    let mut i = 0;
-    while i + 1 < section.len() {
-        if bad_import(section[i], section[i + 1], modules) {
-            return true;
-        }
-        i += 2;
-    }
-    false
+    reader::any_bad(section, Check::Imports(modules))
 }
 
 // 8, "a list passes the section's end, or a member not below M". `left` counts the members that the present list still lacks.
@@ -98,12 +86,5 @@ pub fn bad_circles(section: &[u8], modules: u8) -> bool
 pub fn bad_needs(section: &[u8], items: u16) -> bool
     ensures { λ r. ⌜ r ≡ any (badNeed items) (needRows (now (section .entry))) ⌝ }
 {
-    let mut i = 0;
-    while i + 2 < section.len() {
-        if bad_need(section[i], section[i + 1], section[i + 2], items) {
-            return true;
-        }
-        i += 3;
-    }
-    false
+    reader::any_bad(section, Check::Needs(items))
 }
