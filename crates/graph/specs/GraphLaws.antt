@@ -17,7 +17,7 @@ use Rattle.lists.specs.ArrayLaws.{after-set}
 use Rattle.lists.specs.PairLaws.{addPair-old, length-addPair, seen-added}
 use Rattle.graph.specs.Rows.{cleared, cell, Holds, Rest, Stored}
 use Rattle.graph.specs.RowLaws.{same-place, column, place, rows-sized, rows-cleared}
-use Rattle.graph.specs.Reach.{ReachAdded, PathsAdded}
+use Rattle.graph.specs.Reach.{WayAdded}
 use Rattle.graph.specs.Graph.{Matrices, Space, ends, isMaybe, Shows, Cleared, EdgeRoom, EdgeAdded}
 
 -- The different pairs of needs, with one need more.
@@ -113,8 +113,8 @@ all-cleared {words} {n} {m} space seen weak reach paths =
 -- Adding a need: each array as its own function leaves it.
 module _ {words n x y : ℕ} (weight : ℕ) {m m′ : Matrices} {from to from′ to′ : List ℕ} {count count′ : ℕ} (room : EdgeRoom words n x y m from to count)
     (space : Space words n m′) (added : Added (64 * words) x y (m .seen) from to count (m′ .seen) from′ to′ count′)
-    (weak : Stored (x * (64 * words) + y) (eqb weight 1) (m .weak) (m′ .weak)) (reach : ReachAdded words n x y (m .reach) (m′ .reach))
-    (paths : PathsAdded words n x y (m′ .reach) (m .paths) (m′ .paths)) where
+    (weak : Stored (x * (64 * words) + y) (eqb weight 1) (m .weak) (m′ .weak))
+    (way : WayAdded words n x y (m .reach) (m .paths) (m′ .reach) (m′ .paths)) where
   within : y < 64 * words
   within = column (room .space .seen-rows) (room .second)
 
@@ -142,8 +142,8 @@ module _ {words n x y : ℕ} (weight : ℕ) {m m′ : Matrices} {from to from′
             (held-count (s .counted)) (most-count (s .counted)) (s .to-below));
         seen-pairs = seen-added within added (s .seen-pairs);
         weights = weights-added words n x y weight (room .first) within weak graph (s .weights);
-        reached = reach .shows graph weight (s .reached);
-        in-paths = paths .shows graph weight (reach .shows graph weight (s .reached)) (s .in-paths);
+        reached = way .reached graph weight (s .reached) (s .in-paths);
+        in-paths = way .in-paths graph weight (s .reached) (s .in-paths);
       }
 
   pub edge-added : EdgeAdded words n x y weight m from to count m′ from′ to′ count′
@@ -152,8 +152,8 @@ module _ {words n x y : ℕ} (weight : ℕ) {m m′ : Matrices} {from to from′
         shows = edge-shows;
         pairs = added;
         weak-rest = weights-rest words n x y weight (room .first) within weak;
-        reach-rest = reach .rest;
-        paths-rest = paths .rest;
+        reach-rest = way .reach-rest;
+        paths-rest = way .paths-rest;
       }
 
 -- There are no more different pairs than needs.

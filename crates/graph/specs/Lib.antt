@@ -2,6 +2,8 @@ pub mod Rows
 pub mod RowLaws
 pub mod Reach
 pub mod ReachLaws
+pub mod Words
+pub mod WordLaws
 pub mod Graph
 pub mod GraphLaws
 pub mod NeighbourLaws

@@ -7,11 +7,16 @@ use lib.Dec.{eqb}
 use lib.ListN.{length}
 use Rattle.rules.specs.Project.{Need, needRow}
 use Rattle.rules.specs.Paths.{canReach, inPaths}
-use Rattle.graph.specs.Rows.{rowWords, Rows, Holds, Rest}
+use Rattle.graph.specs.Rows.{Rows, Place, Holds, Rest, cell, RowJoined, RowsJoined}
 
--- What a need x to y changes, by a relation that says what is reached. Whether b joins what a reaches: a is x or reaches it, and a set holds b.
+-- What a need x to y changes, by a relation that says what was reached before it. Whether b joins what a reaches: a is x or reaches it, and a set
+-- holds b.
 unfoldable pub joins : (ℕ → ℕ → Bool) → ℕ → (ℕ → Bool) → ℕ → ℕ → Bool
 joins reaches x set a b = (eqb a x || reaches a x) && set b
+
+-- that set: y and what y reaches
+unfoldable pub onward : (ℕ → ℕ → Bool) → ℕ → ℕ → Bool
+onward reaches y b = eqb b y || reaches y b
 
 -- Whether b enters P(x): "y enters P(x), with all that y reaches except x".
 unfoldable pub entersOwn : (ℕ → ℕ → Bool) → ℕ → ℕ → ℕ → Bool
@@ -21,33 +26,50 @@ entersOwn reaches x y b = eqb b y || (reaches y b && not (eqb b x))
 unfoldable pub entersOthers : (ℕ → ℕ → Bool) → ℕ → ℕ → ℕ → ℕ → Bool
 entersOthers reaches x y a b = eqb b y && not (eqb a y) && (eqb a x || reaches a x)
 
--- What adding the need x to y to the matrix of what each of n items reaches asks for. What it gives: where the matrix showed a graph, it shows that
--- graph with the need.
-pub record ReachRoom (words n x y : ℕ) (reach : List ℕ) : Type 0 where
-  pub rows : Rows words n reach
-  pub first : x < n
-  pub second : y < n
+-- both
+unfoldable pub entersEither : (ℕ → ℕ → Bool) → ℕ → ℕ → ℕ → ℕ → Bool
+entersEither reaches x y a b = (eqb a x && entersOwn reaches x y b) || entersOthers reaches x y a b
 
-pub record ReachAdded (words n x y : ℕ) (old new : List ℕ) : Type 0 where
-  pub shows : (graph : List Need) (weight : ℕ) → Holds words n (canReach graph) old → Holds words n (canReach (needRow x y weight ∷ graph)) new
-  pub rest : Rest words n old new
+-- What entering the way from x to y into row a of both matrices asks for, and what it gives, with the set that joins.
+pub record RowRoom (words a x y : ℕ) (row reach paths : List ℕ) : Type 0 where
+  pub column : y < 64 * words
+  pub arrival : Place words a x reach
+  pub entry : Place words a y paths
+  pub reach-row : a * words + words ≤ length reach
+  pub row-size : words ≤ length row
 
--- The same of the record of paths, where `reach` shows the graph with the need.
-pub record PathsRoom (words n x y : ℕ) (reach paths : List ℕ) : Type 0 where
+pub record RowEntered (words a x y : ℕ) (set : ℕ → Bool) (reach paths reach′ paths′ : List ℕ) : Type 0 where
+  pub reached : RowJoined words a (joins (cell words reach) x set a) reach reach′
+  pub entered : RowJoined words a (entersOthers (cell words reach) x y a) paths paths′
+
+-- The same of each of the first n rows.
+pub record WayRoom (words n x y : ℕ) (reach paths : List ℕ) : Type 0 where
   pub reach-rows : Rows words n reach
   pub paths-rows : Rows words n paths
   pub first : x < n
   pub second : y < n
 
-pub record PathsAdded (words n x y : ℕ) (reach old new : List ℕ) : Type 0 where
-  pub shows : (graph : List Need) (weight : ℕ) → Holds words n (canReach (needRow x y weight ∷ graph)) reach
-      → Holds words n (inPaths graph) old → Holds words n (inPaths (needRow x y weight ∷ graph)) new
-  pub rest : Rest words n old new
+pub record RowsEntered (words n x y : ℕ) (set : ℕ → Bool) (reach paths reach′ paths′ : List ℕ) : Type 0 where
+  pub reached : RowsJoined words n (joins (cell words reach) x set) reach reach′
+  pub entered : RowsJoined words n (entersOthers (cell words reach) x y) paths paths′
 
--- What entering into the row of x alone asks for: the rows of x and y, so short that one fits its copy.
-pub record PathsRowRoom (words x y : ℕ) (reach paths : List ℕ) : Type 0 where
-  pub most : words ≤ rowWords
+-- What entering into the record's row of x asks for.
+pub record OwnRoom (words x y : ℕ) (row paths : List ℕ) : Type 0 where
   pub first : x < 64 * words
   pub second : y < 64 * words
-  pub reach-row : y * words + words ≤ length reach
   pub paths-row : x * words + words ≤ length paths
+  pub row-size : words ≤ length row
+
+-- Both matrices with the way from x to y: what joins what is reached, and what enters the record.
+pub record WayEntered (words n x y : ℕ) (reach paths reach′ paths′ : List ℕ) : Type 0 where
+  pub reached : RowsJoined words n (joins (cell words reach) x (onward (cell words reach) y)) reach reach′
+  pub entered : RowsJoined words n (entersEither (cell words reach) x y) paths paths′
+
+-- What adding the need x to y gives: where the matrices showed a graph, they show that graph with the need.
+pub record WayAdded (words n x y : ℕ) (reach paths reach′ paths′ : List ℕ) : Type 0 where
+  pub reached : (graph : List Need) (weight : ℕ) → Holds words n (canReach graph) reach → Holds words n (inPaths graph) paths
+      → Holds words n (canReach (needRow x y weight ∷ graph)) reach′
+  pub in-paths : (graph : List Need) (weight : ℕ) → Holds words n (canReach graph) reach → Holds words n (inPaths graph) paths
+      → Holds words n (inPaths (needRow x y weight ∷ graph)) paths′
+  pub reach-rest : Rest words n reach reach′
+  pub paths-rest : Rest words n paths paths′

@@ -1,26 +1,43 @@
 -- Laws of what each item reaches and of the record of paths, as bit matrices. Assumes nothing.
-use Prim.Native.Nat.{ℕ, _+_, _*_, _<_}
+use Prim.Native.Nat.{ℕ, _+_, _*_, _≤_, _<_}
 use native.Mathlib.Omega.{arith}
 use mathlib.Core.Path.{_≡_, refl, sym, ap, ap₂, _∙_}
 use mathlib.Core.Logic.{⊎-elim}
-use mathlib.Core.Bool.{Bool, true, false, not, _&&_, _||_, or-assoc, or-false, and-true, and-false, and-comm}
+use mathlib.Core.Bool.{Bool, true, false, not, _&&_, _||_, or-assoc, or-comm, or-false, and-true, and-false, and-comm}
 use mathlib.Core.List.{List, _∷_}
 use lib.Dec.{eqb}
-use borrow.Author.Tests.{eqb-true, eqb-false, eq-eqb, ne-eqb}
+use lib.ListN.{length}
+use borrow.Author.Tests.{eqb-true, eq-eqb, ne-eqb}
 use Rattle.rules.specs.Project.{Need, needRow}
 use Rattle.rules.specs.Paths.{canReach, enters, inPaths}
-use Rattle.laws.specs.Lists.{Tested, holds, fails, tested, both, either, eqb-sym}
-use Rattle.laws.specs.PathLaws.{reaches-join, canReach-sound, canReach-complete}
+use Rattle.laws.specs.Lists.{both, either, eqb-sym}
+use Rattle.laws.specs.PathLaws.{reaches-join, canReach-sound, canReach-complete, inPaths-sound}
 use Rattle.lists.specs.Bits.{bitAt, Inserted, Removed}
-use Rattle.graph.specs.Rows.{cell, RowJoined, RowsJoined}
-use Rattle.graph.specs.RowLaws.{column, row-within, rows-more, row-same, row-left, row-one}
-use Rattle.graph.specs.Reach.{joins, entersOwn, entersOthers, ReachAdded, PathsAdded, ReachRoom, PathsRoom, PathsRowRoom}
+use Rattle.graph.specs.Rows.{cell, Holds, RowJoined}
+use Rattle.graph.specs.RowLaws.{column, row-within, place, rows-sized, rows-none, rows-more, rows-same, row-same, row-left, row-one}
+use Rattle.graph.specs.Reach.{joins, onward, entersOwn, entersOthers, entersEither}
+use Rattle.graph.specs.Reach.{OwnRoom, RowRoom, RowEntered, RowsEntered, WayRoom, WayEntered, WayAdded}
 
 -- Tests.
 or-within : (p q : Bool) → (q ≡ true → p ≡ true) → (p || q) ≡ p
 or-within true q f = refl
 or-within false true f = sym (f refl)
 or-within false false f = refl
+
+own-again : (e p q r : Bool) → (e || ((p || (q && (e || p))) && r)) ≡ (e || (p && r))
+own-again true p q r = refl
+own-again false true q r = refl
+own-again false false true r = refl
+own-again false false false r = refl
+
+arrives-again : (e s t : Bool) → (e || (s || ((e || s) && t))) ≡ (e || s)
+arrives-again true s t = refl
+arrives-again false true t = refl
+arrives-again false false t = refl
+
+pub own-set : (e f r : Bool) → (e || (not f && (e || r))) ≡ (e || (r && not f))
+own-set true f r = refl
+own-set false f r = and-comm (not f) r
 
 -- Where x reaches y already, the need x to y adds nothing to what is reached.
 canReach-trans : (graph : List Need) (a b c : ℕ) → canReach graph a b ≡ true → canReach graph b c ≡ true → canReach graph a c ≡ true
@@ -40,118 +57,167 @@ reached-already graph x y weight e a b =
         let r = both {a = eqb a x || canReach graph a x} h in
         ⊎-elim (λ s. rw (eqb-true y b s) at (to-y (r .0))) (λ s. canReach-trans graph a y b (to-y (r .0)) s) (either {a = eqb y b} (r .1))
 
--- The row of an item joined, where it is x or reaches it. Here and below `t` is what a call answered.
-module _ (words a x : ℕ) (row old : List ℕ) where
-  pub join-there : {t : Bool} {new : List ℕ} → t ≡ (eqb a x || cell words old a x) → t ≡ true → RowJoined words a (bitAt row) old new
-      → RowJoined words a (joins (cell words old) x (bitAt row) a) old new
-  unfolding joins
-  join-there e s j = row-same (joins (cell words old) x (bitAt row) a) (λ b h. rw (sym e ∙ s)) j
+-- What a need x to y enters into the record is the same by what was reached before it.
+own-before : (graph : List Need) (x y weight b : ℕ) → entersOwn (canReach (needRow x y weight ∷ graph)) x y b ≡ entersOwn (canReach graph) x y b
+unfolding entersOwn canReach
+own-before graph x y weight b = rw (eqb-sym y b) (own-again (eqb b y) (canReach graph y b) (eqb y x || canReach graph y x) (not (eqb b x)))
 
-  pub join-not : {t : Bool} → t ≡ (eqb a x || cell words old a x) → t ≡ false → RowJoined words a (joins (cell words old) x (bitAt row) a) old old
-  unfolding joins
-  join-not e s = row-left words a old (λ b. rw (sym e ∙ s))
+others-before : (graph : List Need) (x y weight a b : ℕ)
+    → entersOthers (canReach (needRow x y weight ∷ graph)) x y a b ≡ entersOthers (canReach graph) x y a b
+unfolding entersOthers canReach
+others-before graph x y weight a b =
+    ap (λ (t : Bool). eqb b y && not (eqb a y) && t) (arrives-again (eqb a x) (canReach graph a x) (eqb y x || canReach graph y x))
 
--- One row more. Whether it is joined depends on that row alone, which is as it was.
-pub join-turn : {words i : ℕ} (x : ℕ) (row : List ℕ) {old now new : List ℕ} → x < 64 * words
-    → RowsJoined words i (joins (cell words old) x (bitAt row)) old now → RowJoined words i (joins (cell words now) x (bitAt row) i) now new
-    → RowsJoined words (i + 1) (joins (cell words old) x (bitAt row)) old new
-unfolding joins
-join-turn {words} {i} x row {old} {now} within j k =
-    rows-more j (row-same (joins (cell words old) x (bitAt row) i) (λ b h. rw (j .rest i x (omega arith) within)) k)
+enters-before : (graph : List Need) (x y weight a b : ℕ) → enters (needRow x y weight ∷ graph) x y a b ≡ entersEither (canReach graph) x y a b
+unfolding enters entersEither entersOwn entersOthers
+enters-before graph x y weight a b =
+    ap₂ _||_ (ap (λ (t : Bool). eqb a x && t) (own-before graph x y weight b)) (others-before graph x y weight a b)
 
--- Adding the need x to y to what each of n items reaches: nothing where x reaches y, else the rows are joined with y and what y reaches.
-module _ {words n x y : ℕ} {old : List ℕ} (r : ReachRoom words n x y old) where
-  pub reach-old : {t : Bool} → t ≡ cell words old x y → t ≡ true → ReachAdded words n x y old old
-  reach-old e s =
+-- y entered into the row of an item, where it is another.
+pub other-there : (words a y : ℕ) {old new : List ℕ} → (a ≡ y → ⊥) → y < 64 * words → Inserted (a * (64 * words) + y) old new
+    → RowJoined words a (λ b. eqb b y && not (eqb a y)) old new
+other-there words a y apart column i =
+    row-same (λ b. eqb b y && not (eqb a y)) (λ b h. rw (ne-eqb a y apart) (sym (and-true (eqb b y)))) (row-one words a y column i)
+
+pub other-itself : (words a y : ℕ) (old : List ℕ) → a ≡ y → RowJoined words a (λ b. eqb b y && not (eqb a y)) old old
+other-itself words a y old e = row-left words a old (λ b. rw (eq-eqb a y e, and-false))
+
+-- The rows of an item in both matrices, where it is x or reaches it. Here and below `t` is what a call answered.
+module _ (words a x y : ℕ) (row reach paths : List ℕ) where
+  pub row-there : {t : Bool} {reach′ paths′ : List ℕ} → t ≡ (eqb a x || cell words reach a x) → t ≡ true → RowJoined words a (bitAt row) reach reach′
+      → RowJoined words a (λ b. eqb b y && not (eqb a y)) paths paths′ → RowEntered words a x y (bitAt row) reach paths reach′ paths′
+  unfolding joins entersOthers
+  row-there e s j k =
       record {
-        shows =
-            λ graph weight h a b below within.
-            h a b below within ∙ sym (reached-already graph x y weight (sym (e ∙ h x y (r .first) (column (r .rows) (r .second))) ∙ s) a b);
-        rest = λ a b below within. refl;
+        reached = row-same (joins (cell words reach) x (bitAt row) a) (λ b h. rw (sym e ∙ s)) j;
+        entered = row-same (entersOthers (cell words reach) x y a) (λ b h. rw (sym e ∙ s) (sym (and-true (eqb b y && not (eqb a y))))) k;
       }
 
-  pub reach-new : {copied row new : List ℕ} → ((b : ℕ) → b < 64 * words → bitAt copied b ≡ cell words old y b) → Inserted y copied row
-      → RowsJoined words n (joins (cell words old) x (bitAt row)) old new → ReachAdded words n x y old new
-  unfolding canReach joins
-  reach-new bits i j =
+  pub row-not : {t : Bool} → t ≡ (eqb a x || cell words reach a x) → t ≡ false → RowEntered words a x y (bitAt row) reach paths reach paths
+  unfolding joins entersOthers
+  row-not e s =
       record {
-        shows =
-            λ graph weight h a b below within.
-            j .rows a b below within
-            ∙ ap₂ _||_ (h a b below within)
-            (ap₂ _&&_ (ap (λ (t : Bool). eqb a x || t) (h a x below (column (r .rows) (r .first))))
-            (i .bits b ∙ ap₂ _||_ (eqb-sym b y) (bits b within ∙ h y b (r .second) within)));
-        rest = j .rest;
+        reached = row-left words a reach (λ b. rw (sym e ∙ s));
+        entered = row-left words a paths (λ b. rw (sym e ∙ s, and-false));
       }
 
--- The row of x joined with y and what y reaches except x: with a copy of y's row, without x and with y.
-pub enter-own : {words x y : ℕ} (reach : List ℕ) {copied without with old new : List ℕ}
-    → ((b : ℕ) → b < 64 * words → bitAt copied b ≡ cell words reach y b) → Removed x copied without → Inserted y without with
-    → RowJoined words x (bitAt with) old new → RowJoined words x (entersOwn (cell words reach) x y) old new
-unfolding entersOwn
-enter-own {words} {x} {y} reach {copied} bits r i j =
-    row-same (entersOwn (cell words reach) x y)
-    (λ b h.
-    i .bits b
-    ∙ ap (λ (t : Bool). eqb b y || t)
-    (r .bits b ∙ and-comm (not (eqb b x)) (bitAt copied b) ∙ ap (λ (t : Bool). t && not (eqb b x)) (bits b h)))
-    j
-
--- y entered into the row of an item other than y that is x or reaches it.
-module _ (words z x y : ℕ) (reach old : List ℕ) where
-  pub enter-there : {t : Bool} {new : List ℕ} → (z ≡ y → ⊥) → t ≡ (eqb z x || cell words reach z x) → t ≡ true → y < 64 * words
-      → Inserted (z * (64 * words) + y) old new → RowJoined words z (entersOthers (cell words reach) x y z) old new
-  unfolding entersOthers
-  enter-there apart e s column i =
-      row-same (entersOthers (cell words reach) x y z)
-      (λ b h. rw (ne-eqb z y apart, sym e ∙ s) (sym (and-true (eqb b y && true) ∙ and-true (eqb b y)))) (row-one words z y column i)
-
-  pub enter-itself : z ≡ y → RowJoined words z (entersOthers (cell words reach) x y z) old old
-  unfolding entersOthers
-  enter-itself e = row-left words z old (λ b. rw (eq-eqb z y e, and-false))
-
-  pub enter-not : {t : Bool} → t ≡ (eqb z x || cell words reach z x) → t ≡ false → RowJoined words z (entersOthers (cell words reach) x y z) old old
-  unfolding entersOthers
-  enter-not e s = row-left words z old (λ b. rw (sym e ∙ s, and-false))
-
-pub paths-row-room : {words n x y : ℕ} {reach paths : List ℕ} → PathsRoom words n x y reach paths → PathsRowRoom words x y reach paths
-paths-row-room {words} {n} {x} {y} e =
+-- What one row, and the row of x, ask for.
+pub row-room : {words n x y : ℕ} {reach paths : List ℕ} (now-reach now-paths row : List ℕ) (a : ℕ) → WayRoom words n x y reach paths
+    → length now-reach ≡ length reach → length now-paths ≡ length paths → words ≤ length row → a < n → RowRoom words a x y row now-reach now-paths
+row-room {x = x} {y} {reach} {paths} now-reach now-paths row a w e f size h =
+    let reach-rows = rows-sized reach now-reach (w .reach-rows) e in
+    let paths-rows = rows-sized paths now-paths (w .paths-rows) f in
     record {
-      most = e .reach-rows .most;
-      first = column (e .reach-rows) (e .first);
-      second = column (e .reach-rows) (e .second);
-      reach-row = row-within (e .reach-rows) y (e .second);
-      paths-row = row-within (e .paths-rows) x (e .first);
+      column = column reach-rows (w .second);
+      arrival = place reach-rows a x h (column reach-rows (w .first));
+      entry = place paths-rows a y h (column paths-rows (w .second));
+      reach-row = row-within reach-rows a h;
+      row-size = size;
     }
 
--- Entering the need x to y into the record of paths: nothing where P(x) holds y, else both parts of `enters`.
-module _ {words n x y : ℕ} {reach old : List ℕ} (r : PathsRoom words n x y reach old) where
-  pub paths-old : {t : Bool} → t ≡ cell words old x y → t ≡ true → PathsAdded words n x y reach old old
-  unfolding inPaths
-  paths-old e s =
-      record {
-        shows =
-            λ graph weight g h a b below within.
-            h a b below within ∙ sym (rw (sym (e ∙ h x y (r .first) (column (r .paths-rows) (r .second))) ∙ s) (or-false (inPaths graph a b)));
-        rest = λ a b below within. refl;
-      }
+pub own-room : {words n x y : ℕ} {reach paths now row : List ℕ} → WayRoom words n x y reach paths → length now ≡ length paths → words ≤ length row
+    → OwnRoom words x y row now
+own-room {x = x} {paths = paths} {now = now} w e size =
+    let rows = rows-sized paths now (w .paths-rows) e in
+    record {
+      first = column rows (w .first);
+      second = column rows (w .second);
+      paths-row = row-within rows x (w .first);
+      row-size = size;
+    }
 
-  pub paths-new : {t : Bool} {now new : List ℕ} → t ≡ cell words old x y → t ≡ false → RowJoined words x (entersOwn (cell words reach) x y) old now
-      → RowsJoined words n (entersOthers (cell words reach) x y) now new → PathsAdded words n x y reach old new
-  unfolding inPaths enters entersOwn entersOthers
-  paths-new {now = now} e s j k =
+-- One row more. Whether it is joined depends on that row alone, which is as it was.
+pub rows-start : {words x y : ℕ} {set : ℕ → Bool} {reach paths : List ℕ} → RowsEntered words 0 x y set reach paths reach paths
+rows-start = record { reached = rows-none; entered = rows-none }
+
+pub rows-turn : {words i x y : ℕ} {set : ℕ → Bool} {reach paths now-reach now-paths new-reach new-paths : List ℕ} → x < 64 * words
+    → RowsEntered words i x y set reach paths now-reach now-paths → RowEntered words i x y set now-reach now-paths new-reach new-paths
+    → RowsEntered words (i + 1) x y set reach paths new-reach new-paths
+unfolding joins entersOthers
+rows-turn {words} {i} {x} {y} {set} {reach} within j k =
+    let same = j .reached .rest i x (omega arith) within in
+    record {
+      reached = rows-more (j .reached) (row-same (joins (cell words reach) x set i) (λ b h. rw same) (k .reached));
+      entered = rows-more (j .entered) (row-same (entersOthers (cell words reach) x y i) (λ b h. rw same) (k .entered));
+    }
+
+-- The row of x joined with y and what a row holds except x.
+pub own-joined : {words x y : ℕ} {row without with old new : List ℕ} → Removed x row without → Inserted y without with
+    → RowJoined words x (bitAt with) old new → RowJoined words x (λ b. eqb b y || (not (eqb b x) && bitAt row b)) old new
+own-joined {x = x} {y} {row} r i j =
+    row-same (λ b. eqb b y || (not (eqb b x) && bitAt row b)) (λ b h. i .bits b ∙ ap (λ (t : Bool). eqb b y || t) (r .bits b)) j
+
+-- Both matrices, where the rows that arrive at x were joined with a copy of y's row, with y, and then the record's row of x.
+module _ {words n x y : ℕ} {reach paths : List ℕ} (r : WayRoom words n x y reach paths) where
+  pub way-entered : {copied row now reach′ paths′ : List ℕ} → ((b : ℕ) → b < 64 * words → bitAt copied b ≡ cell words reach y b) → Inserted y copied row
+      → RowsEntered words n x y (bitAt row) reach paths reach′ now
+      → RowJoined words x (λ b. eqb b y || (not (eqb b x) && bitAt row b)) now paths′ → WayEntered words n x y reach paths reach′ paths′
+  unfolding joins onward entersOwn entersEither
+  way-entered {copied} {row} {now} bits i j k =
       record {
-        shows =
-            λ graph weight g h a b below within.
-            let reaches = canReach (needRow x y weight ∷ graph) in
-            let own : cell words now a b ≡ (inPaths graph a b || (eqb a x && entersOwn reaches x y b)) =
-            j .cells a b within
-            ∙ ap₂ _||_ (h a b below within) (ap (λ (t : Bool). eqb a x && (eqb b y || (t && not (eqb b x)))) (g y b (r .second) within)) in
-            k .rows a b below within
-            ∙ ap₂ _||_ own (ap (λ (t : Bool). eqb b y && not (eqb a y) && (eqb a x || t)) (g a x below (column (r .reach-rows) (r .first))))
-            ∙ rw (sym (e ∙ h x y (r .first) (column (r .paths-rows) (r .second))) ∙ s)
-            (or-assoc (inPaths graph a b) (eqb a x && entersOwn reaches x y b) (entersOthers reaches x y a b));
-        rest =
-            λ a b below within.
-            k .rest a b below within ∙ j .cells a b within ∙ rw (ne-eqb a x (λ same. omega (arith, r .first))) (or-false (cell words old a b));
+        reached =
+            rows-same (joins (cell words reach) x (onward (cell words reach) y))
+            (λ a b h. ap (λ (t : Bool). (eqb a x || cell words reach a x) && t) (set b h)) (j .reached);
+        entered =
+            record {
+              rows =
+                  λ a b below within.
+                  k .cells a b within
+                  ∙ ap₂ _||_ (j .entered .rows a b below within) (ap (λ (t : Bool). eqb a x && t) (own b within))
+                  ∙ or-assoc (cell words paths a b) (entersOthers (cell words reach) x y a b) (eqb a x && entersOwn (cell words reach) x y b)
+                  ∙ ap (λ (t : Bool). cell words paths a b || t)
+                  (or-comm (entersOthers (cell words reach) x y a b) (eqb a x && entersOwn (cell words reach) x y b));
+              rest =
+                  λ a b below within.
+                  k .cells a b within
+                  ∙ rw (ne-eqb a x (λ same. omega (arith, r .first)), or-false) (j .entered .rest a b below within);
+            };
       }
+    where
+      set : (b : ℕ) → b < 64 * words → bitAt row b ≡ onward (cell words reach) y b
+      set b h = i .bits b ∙ ap (λ (t : Bool). eqb b y || t) (bits b h)
+
+      own : (b : ℕ) → b < 64 * words → (eqb b y || (not (eqb b x) && bitAt row b)) ≡ entersOwn (cell words reach) x y b
+      own b h =
+          ap (λ (t : Bool). eqb b y || (not (eqb b x) && t)) (set b h) ∙ own-set (eqb b y) (eqb b x) (cell words reach y b)
+
+  -- Adding the need x to y: nothing where P(x) holds y, since x reaches it then, else the way from x to y is entered.
+  pub way-old : {t : Bool} → t ≡ cell words paths x y → t ≡ true → WayAdded words n x y reach paths reach paths
+  unfolding inPaths
+  way-old e s =
+      record {
+        reached =
+            λ graph weight g h a b below within.
+            g a b below within ∙ sym (reached-already graph x y weight (canReach-complete graph (inPaths-sound graph (held graph h))) a b);
+        in-paths = λ graph weight g h a b below within. h a b below within ∙ sym (rw (held graph h) (or-false (inPaths graph a b)));
+        reach-rest = λ a b below within. refl;
+        paths-rest = λ a b below within. refl;
+      }
+    where
+      held : (graph : List Need) → Holds words n (inPaths graph) paths → inPaths graph x y ≡ true
+      held graph h = sym (e ∙ h x y (r .first) (column (r .paths-rows) (r .second))) ∙ s
+
+  pub way-new : {t : Bool} {reach′ paths′ : List ℕ} → t ≡ cell words paths x y → t ≡ false → WayEntered words n x y reach paths reach′ paths′
+      → WayAdded words n x y reach paths reach′ paths′
+  unfolding inPaths canReach joins onward entersOwn entersOthers entersEither
+  way-new e s w =
+      record {
+        reached =
+            λ graph weight g h a b below within.
+            w .reached .rows a b below within
+            ∙ ap₂ _||_ (g a b below within)
+            (ap₂ _&&_ (ap (λ (t : Bool). eqb a x || t) (to-x graph g a below)) (ap₂ _||_ (eqb-sym b y) (g y b (r .second) within)));
+        in-paths =
+            λ graph weight g h a b below within.
+            w .entered .rows a b below within
+            ∙ ap₂ _||_ (h a b below within)
+            (ap₂ _||_ (ap (λ (t : Bool). eqb a x && (eqb b y || (t && not (eqb b x)))) (g y b (r .second) within))
+            (ap (λ (t : Bool). eqb b y && not (eqb a y) && (eqb a x || t)) (to-x graph g a below)))
+            ∙ rw (sym (e ∙ h x y (r .first) (column (r .paths-rows) (r .second))) ∙ s)
+            (ap (λ (t : Bool). inPaths graph a b || t) (sym (enters-before graph x y weight a b)));
+        reach-rest = w .reached .rest;
+        paths-rest = w .entered .rest;
+      }
+    where
+      to-x : (graph : List Need) → Holds words n (canReach graph) reach → (a : ℕ) → a < n → cell words reach a x ≡ canReach graph a x
+      to-x graph g a below = g a x below (column (r .reach-rows) (r .first))

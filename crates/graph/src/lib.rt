@@ -8,6 +8,7 @@ ghost use Rattle.graph.specs.Graph.{matrices, Space, Cleared, EdgeRoom, 
 pub mod neighbours;
 pub mod rows;
 mod transitives;
+mod word;
 
 use lists::bits;
 use lists::pairs;
@@ -71,7 +72,6 @@ pub fn add_edge(
     let b = y as usize;
     let more = pairs::add(seen, from, to, count, 64 * words, x, y);
     set_weight(weak, words, a, b, weight);
-    transitives::add_reach(reach, words, n, a, b);
     transitives::insert_transitives(paths, reach, words, n, a, b);
     more
 }

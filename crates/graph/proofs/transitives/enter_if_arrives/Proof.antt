@@ -1,53 +1,50 @@
 -- `graph::transitives::enter_if_arrives` meets its contract. Assumes nothing.
 use borrow.Author.Needs.{needs}
-use Rattle.graph.specs.ReachLaws.{enter-there, enter-itself, enter-not}
+use Rattle.graph.specs.ReachLaws.{row-there, row-not}
 use Rattle.graph.proofs.transitives.enter_if_arrives.Statement.{statement}
 use Rattle.graph.proofs.transitives.enter_if_arrives.Tie as tie
-
-returns : tie.Need-returns
-returns c = let a = c .before .before .before .args in enter-itself (a .words) (a .z) (a .x) (a .y) (a .reach .now) (a .paths .now) (c .if1 .taken)
 
 arrives-requires : tie.Need-arrives-requires
 arrives-requires c κs = search needs
 
-mul-width : tie.Need-mul-width
-mul-width c = search needs
+join-row-requires : tie.Need-join-row-requires
+join-row-requires c κs = search needs
 
-mul-row-insert : tie.Need-mul-row-insert
-mul-row-insert c = search needs
-
-add-row-insert : tie.Need-add-row-insert
-add-row-insert c = search needs
-
-row-insert-requires : tie.Need-row-insert-requires
-row-insert-requires c κs = search needs
+enter-other-requires : tie.Need-enter-other-requires
+enter-other-requires c κs = search needs
 
 same-length : tie.Need-same-length
 same-length c = search needs
 
+same-length-2 : tie.Need-same-length-2
+same-length-2 c = search needs
+
+returns : tie.Need-returns
+returns c =
+    let entered = c .before .before in
+    let joined = entered .before .before .before .before in
+    let found = joined .before .before in
+    let a = found .before .before .before .before .before .before .args in
+    row-there (a .words) (a .a) (a .x) (a .y) (a .row .now) (a .reach .now) (a .paths .now) (found .before .arrives .ensures) (found .if1 .taken)
+    (joined .join-row .ensures) (entered .enter-other .ensures)
+
+same-length-3 : tie.Need-same-length-3
+same-length-3 c = search needs
+
 returns-2 : tie.Need-returns-2
 returns-2 c =
-    let found = c .before .before .before .before in
-    let apart = found .before .before in
-    let a = apart .before .before .before .args in
-    enter-there (a .words) (a .z) (a .x) (a .y) (a .reach .now) (a .paths .now) (apart .if1 .left)
-    (found .before .arrives .ensures) (found .if2 .taken) (search needs) (c .before .before .row-insert .ensures)
-
-returns-3 : tie.Need-returns-3
-returns-3 c =
-    let a = c .before .before .before .before .before .args in
-    enter-not (a .words) (a .z) (a .x) (a .y) (a .reach .now) (a .paths .now) (c .before .arrives .ensures) (c .if2 .left)
+    let a = c .before .before .before .before .before .before .args in
+    row-not (a .words) (a .a) (a .x) (a .y) (a .row .now) (a .reach .now) (a .paths .now) (c .before .arrives .ensures) (c .if1 .left)
 
 pub enter-if-arrives-spec : {M : Type 1} → statement M
 enter-if-arrives-spec =
     tie.close
     (tie.spec
-    returns
     arrives-requires
-    mul-width
-    mul-row-insert
-    add-row-insert
-    row-insert-requires
+    join-row-requires
+    enter-other-requires
     same-length
-    returns-2
-    returns-3)
+    same-length-2
+    returns
+    same-length-3
+    returns-2)
