@@ -1,5 +1,6 @@
 pub mod Walking
 pub mod WalkingLaws
+pub mod LongLaws
 pub mod Sorts
 pub mod Written
 pub mod WriteLaws

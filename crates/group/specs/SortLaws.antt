@@ -18,7 +18,7 @@ use Rattle.stmt.specs.Walks.{Ended}
 use Rattle.group.specs.declared.Ending.{Ending}
 use Rattle.layout.specs.Numbers.{Numberable, ItemsNumbered}
 use Rattle.layout.specs.NumberLaws.{numbering-below}
-use Rattle.group.specs.Walking.{GroupWalkable, WalkScratch}
+use Rattle.group.specs.Walking.{GroupWalkable}
 use Rattle.group.specs.WalkingLaws.{items-most, items-are}
 use Rattle.group.specs.Written.{Endable}
 use Rattle.group.specs.Sorts.{Sortable, Scratch, Sorted}
@@ -27,31 +27,10 @@ use Rattle.group.specs.Sorts.{Sortable, Scratch, Sorted}
 abbrev runOf : Project → List ℕ → ℕ → ℕ → Stop ItemState
 runOf p modules left already = run (itemWalk (groupOf p modules)) itemListLimit left already (itemStart (groupOf p modules))
 
-module _ {rows kinds low high starts numbers seen weak reach paths moved placed from to next-out next-in heads-out heads-in «open» order list : List ℕ}
-    (a : Scratch rows kinds low high starts numbers seen weak reach paths moved placed from to next-out next-in heads-out heads-in «open» order list) where
-  pub walk-scratch : WalkScratch seen weak reach paths moved placed from to next-out next-in heads-out heads-in «open» order list
-  walk-scratch =
-      record {
-        seen-size = a .seen-size;
-        weak-size = a .weak-size;
-        reach-size = a .reach-size;
-        paths-size = a .paths-size;
-        moved-size = a .moved-size;
-        placed-size = a .placed-size;
-        from-size = a .from-size;
-        to-size = a .to-size;
-        next-out-size = a .next-out-size;
-        next-in-size = a .next-in-size;
-        heads-out-size = a .heads-out-size;
-        heads-in-size = a .heads-in-size;
-        open-size = a .open-size;
-        order-size = a .order-size;
-        list-size = a .list-size;
-      }
-
-module _ {p : Project} {modules items needs next heads out : List ℕ} {«at» : ℕ} (h : Sortable p modules items needs next heads out «at») where
-  pub numberable : {rows kinds low high starts numbers seen weak reach paths moved placed from to next-out next-in heads-out heads-in «open» order list : List ℕ}
-      → Scratch rows kinds low high starts numbers seen weak reach paths moved placed from to next-out next-in heads-out heads-in «open» order list
+module _ {p : Project} {modules items needs next-need : List ℕ} {first-need : ℕ} {next heads out : List ℕ} {«at» : ℕ}
+    (h : Sortable p modules items needs next-need first-need next heads out «at») where
+  pub numberable : {most many : ℕ} {rows kinds low high starts numbers seen weak reach paths moved placed from to next-out next-in heads-out heads-in «open» order list : List ℕ}
+      → Scratch most many rows kinds low high starts numbers seen weak reach paths moved placed from to next-out next-in heads-out heads-in «open» order list
       → Numberable p modules items next heads rows kinds low high starts numbers
   numberable a =
       record {
@@ -68,8 +47,8 @@ module _ {p : Project} {modules items needs next heads out : List ℕ} {«at» :
 
   -- the items numbered
   module _ {rows kinds low high starts numbers : List ℕ} {s : Split} (i : ItemsNumbered p modules rows kinds low high starts numbers s) where
-    pub group-walkable : GroupWalkable p needs modules rows kinds low high starts numbers s
-    group-walkable = record { accepted = h .accepted; giving = h .giving; needs-are = h .needs-are; numbered = i }
+    pub group-walkable : GroupWalkable p needs next-need first-need modules rows kinds low high starts numbers s
+    group-walkable = record { accepted = h .accepted; giving = h .giving; needs-own = h .needs-own; numbered = i }
 
     row-byte : (x : ℕ) → x < s .count → getD rows x 0 < itemLimit
     row-byte x g =

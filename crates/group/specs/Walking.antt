@@ -1,10 +1,10 @@
 -- The walk of a group's items from its first list on. Assumes nothing.
-use Prim.Native.Nat.{ℕ, _*_, _≤_}
+use Prim.Native.Nat.{ℕ, _+_, _*_, _/_, _≤_}
 use mathlib.Core.Path.{_≡_}
 use mathlib.Core.List.{List}
 use lib.ListN.{length}
-use Rattle.rules.specs.Project.{Project, itemLimit, needLimit, needRows}
-use Rattle.rules.specs.Items.{Group}
+use Rattle.rules.specs.Project.{Project, itemLimit}
+use Rattle.rules.specs.Items.{Group, firstList}
 use Rattle.rules.specs.Calls.{itemListLimit}
 use Rattle.laws.specs.Accepted.{Accepted}
 use Rattle.laws.specs.Splits.{size, Giving}
@@ -13,6 +13,7 @@ use Rattle.split.specs.FirstLists.{Listable}
 use Rattle.graph.specs.Rows.{rowWords}
 use Rattle.stmt.specs.Walks.{Laid}
 use Rattle.layout.specs.Numbers.{ItemsNumbered}
+use Rattle.layout.specs.Needs.{OwnNeeds}
 
 -- What it asks for: the group laid out, its starts, and arrays for the walk's state.
 pub record Walkable (g : Group) (to heads-out next-out from heads-in next-in paths weak kinds low high starts : List ℕ) (s : Split) (words : ℕ)
@@ -24,29 +25,46 @@ pub record Walkable (g : Group) (to heads-out next-out from heads-in next-in pat
   pub moved-size : size g * words ≤ length moved
   pub open-size : length «open» ≡ itemLimit
   pub order-size : length order ≡ itemLimit
-  pub list-size : length list ≡ itemListLimit
+  pub first-most : length (firstList g) ≤ itemListLimit
 
--- The items of modules numbered, with the bytes of the project's needs.
-pub record GroupWalkable (p : Project) (needs modules rows kinds low high starts numbers : List ℕ) (s : Split) : Type 0 where
+-- The items of modules numbered, with the chain of their needs.
+pub record GroupWalkable (p : Project) (needs next-need : List ℕ) (first-need : ℕ) (modules rows kinds low high starts numbers : List ℕ) (s : Split) : Type 0 where
   pub accepted : Accepted p
   pub giving : Giving p modules
-  pub needs-are : p .needs ≡ needRows needs
+  pub needs-own : OwnNeeds p modules needs next-need first-need
   pub numbered : ItemsNumbered p modules rows kinds low high starts numbers s
 
--- The sizes of the arrays that laying out a group's needs and its walk use.
-pub record WalkScratch (seen weak reach paths moved placed from to next-out next-in heads-out heads-in «open» order list : List ℕ) : Type 0 where
-  pub seen-size : length seen ≡ itemLimit * rowWords
-  pub weak-size : length weak ≡ itemLimit * rowWords
-  pub reach-size : length reach ≡ itemLimit * rowWords
-  pub paths-size : length paths ≡ itemLimit * rowWords
-  pub moved-size : length moved ≡ itemLimit * rowWords
+-- The words of a row for n items.
+abbrev pub wordsFor : ℕ → ℕ
+wordsFor n = (n + 63) / 64
+
+-- A matrix with a row for each of n items.
+abbrev pub Sized : ℕ → List ℕ → Type 0
+Sized n matrix = n * wordsFor n ≤ length matrix
+
+-- An array in which the first list of a group fits, of a project with this many items: "at most" the number of laws' firstList-most, for 64 modules.
+pub record FirstRoom (items : ℕ) (list : List ℕ) : Type 0 where
+  pub more : ℕ
+  pub enough : 63 ≤ more
+  pub items-most : items ≤ 63 + more
+  pub size : 64 + (63 + more) + 63 * more ≤ length list
+
+-- The sizes of the arrays that laying out a group's needs and its walk use, for a project with this many items and needs.
+pub record WalkScratch (items needs : ℕ) (seen weak reach paths moved placed from to next-out next-in heads-out heads-in «open» order list : List ℕ)
+    : Type 0 where
+  pub seen-size : Sized items seen
+  pub seen-most : length seen ≤ 65536
+  pub weak-size : Sized items weak
+  pub reach-size : Sized items reach
+  pub paths-size : Sized items paths
+  pub moved-size : Sized items moved
   pub placed-size : length placed ≡ rowWords
-  pub from-size : length from ≡ needLimit
-  pub to-size : length to ≡ needLimit
-  pub next-out-size : length next-out ≡ needLimit
-  pub next-in-size : length next-in ≡ needLimit
+  pub from-size : needs ≤ length from
+  pub to-size : needs ≤ length to
+  pub next-out-size : needs ≤ length next-out
+  pub next-in-size : needs ≤ length next-in
   pub heads-out-size : length heads-out ≡ itemLimit
   pub heads-in-size : length heads-in ≡ itemLimit
   pub open-size : length «open» ≡ itemLimit
   pub order-size : length order ≡ itemLimit
-  pub list-size : length list ≡ itemListLimit
+  pub list-size : FirstRoom items list

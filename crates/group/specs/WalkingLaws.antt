@@ -1,14 +1,16 @@
 -- Laws of the walk of a group's items from its first list on. Assumes nothing.
-use Prim.Native.Nat.{ℕ, _+_, _*_, _/_, _≤_}
+use Prim.Native.Nat.{ℕ, _+_, _*_, _≤_}
 use native.Mathlib.Omega.{arith}
-use native.Mathlib.Nat.{mul-le-mul}
+use native.Mathlib.Nat.{le-trans, mul-le-mul}
 use mathlib.Core.Path.{_≡_, refl, sym, ap, subst, _∙_}
 use mathlib.Core.List.{List, []}
 use lib.ListN.{length, take}
 use Rattle.rules.specs.Lists.{any, elem}
-use Rattle.rules.specs.Project.{Project, Need, itemLimit, needLimit, needRows}
-use Rattle.rules.specs.Items.{numbered, groupOf, pathHolds, weightOf, Group, hasMoved, itemList, placedOf, itemStart}
-use Rattle.laws.specs.Splits.{size, length-kinds, length-numbering, wellFormed}
+use Rattle.rules.specs.Project.{Project, Need, itemLimit}
+use Rattle.rules.specs.Items.{firstList, groupOf, pathHolds, weightOf, Group, hasMoved, itemList, placedOf, itemStart}
+use Rattle.laws.specs.Counting.{below-length}
+use Rattle.laws.specs.Splits.{size, length-kinds, length-numbering, wellFormed, giving-below}
+use Rattle.laws.specs.FirstList.{firstList-most, firstList-limit}
 use Rattle.laws.specs.ItemWalk.{walked-start}
 use Rattle.lists.specs.Bits.{bitAt}
 use Rattle.lists.specs.Stacks.{stack}
@@ -22,7 +24,7 @@ use Rattle.stmt.specs.declared.walk.ItemWalk.{ItemWalk}
 use Rattle.stmt.specs.Walks.{Laid, Row, Table, movedOf, Walking}
 use Rattle.layout.specs.Needs.{needsAmong}
 use Rattle.layout.specs.Layout.{LayRoom, NeedsLaid}
-use Rattle.group.specs.Walking.{Walkable, GroupWalkable, WalkScratch}
+use Rattle.group.specs.Walking.{Walkable, GroupWalkable, wordsFor, Sized, FirstRoom, WalkScratch}
 
 -- A cleared row has no bit, and a cleared table no pair.
 row-none : (n : ℕ) (placed : List ℕ) → n ≤ 64 * rowWords → length placed ≡ rowWords → {placed′ : List ℕ} → placed′ ≡ cleared rowWords placed
@@ -79,8 +81,8 @@ module _ {g : Group} {to heads-out next-out from heads-in next-in paths weak kin
               entries =
                   record {
                     shown = l .shown;
-                    within = omega (arith, l .count, h .listable .room, h .list-size);
-                    size = list-same ∙ h .list-size;
+                    within = omega (arith, l .count, h .first-most);
+                    held = omega (arith, l .count, h .listable .room);
                   };
               items =
                   record {
@@ -95,54 +97,67 @@ module _ {g : Group} {to heads-out next-out from heads-in next-in paths weak kin
         walked = walked-start g (h .laid .formed);
       }
 
--- The words of a row for n items.
-abbrev pub wordsFor : ℕ → ℕ
-wordsFor n = (n + 63) / 64
-
-matrix-rows : (n : ℕ) (matrix : List ℕ) → n ≤ itemLimit → length matrix ≡ itemLimit * rowWords → Rows (wordsFor n) n matrix
-matrix-rows n matrix h e =
-    let most : wordsFor n ≤ rowWords = omega arith in
-    record { numbers = omega arith; most = most; size = omega (arith, mul-le-mul h most) }
+matrix-rows : (n most : ℕ) (matrix : List ℕ) → n ≤ most → most ≤ itemLimit → Sized most matrix → Rows (wordsFor n) n matrix
+matrix-rows n most matrix h g e =
+    let fewer : wordsFor n ≤ wordsFor most = omega arith in
+    record { numbers = omega arith; most = omega arith; size = omega (arith, mul-le-mul h fewer) }
 
 -- The items of modules numbered.
-module _ {p : Project} {needs modules rows kinds low high starts numbers : List ℕ} {s : Split}
-    (h : GroupWalkable p needs modules rows kinds low high starts numbers s) where
+module _ {p : Project} {needs next-need : List ℕ} {first-need : ℕ} {modules rows kinds low high starts numbers : List ℕ} {s : Split}
+    (h : GroupWalkable p needs next-need first-need modules rows kinds low high starts numbers s) where
+  items-few : s .count ≤ length (p .items)
+  items-few = omega (arith, h .numbered .splits .count-is, length-numbering p (h .giving .once))
+
   pub items-most : s .count ≤ itemLimit
-  items-most = omega (arith, h .numbered .splits .count-is, length-numbering p (h .giving .once), h .accepted .items-most)
+  items-most = omega (arith, items-few, h .accepted .items-most)
 
   pub items-are : s .count ≡ size (groupOf p modules)
   items-are = h .numbered .splits .count-is ∙ sym (length-kinds p modules)
 
-  group-needs : needsAmong (take (s .count) rows) (needRows needs) ≡ groupOf p modules .needs
+  abbrev own : List Need
+  own = h .needs-own .own
+
+  group-needs : needsAmong (take (s .count) rows) own ≡ groupOf p modules .needs
   unfolding groupOf
-  group-needs = rw (h .numbered .splits .numbered, ← h .needs-are)
+  group-needs = ap (λ (l : List ℕ). needsAmong l own) (h .numbered .splits .numbered) ∙ h .needs-own .among
+
+  own-rows : (matrix : List ℕ) → Sized (length (p .items)) matrix → Rows (wordsFor (s .count)) (s .count) matrix
+  own-rows matrix e = matrix-rows (s .count) (length (p .items)) matrix items-few (h .accepted .items-most) e
+
+  first-fits : {list : List ℕ} → FirstRoom (length (p .items)) list → length (firstList (groupOf p modules)) ≤ length list
+  first-fits r =
+      let few = below-length (h .giving .once) (giving-below (λ i m. h .accepted .item-rows i m .module-below) (h .giving)) in
+      le-trans
+      (firstList-most p modules (h .giving) 63 (r .more) (r .enough) (omega (arith, few, h .accepted .modules-most))
+      (omega (arith, r .items-most, length-numbering p (h .giving .once))))
+      (r .size)
 
   module _ {seen weak reach paths moved placed from to next-out next-in heads-out heads-in «open» order list : List ℕ}
-      (a : WalkScratch seen weak reach paths moved placed from to next-out next-in heads-out heads-in «open» order list) where
-    pub lay-room : LayRoom (wordsFor (s .count)) (s .count) (needRows needs) (matrices seen weak reach paths) from to heads-out next-out heads-in next-in
+      (a : WalkScratch (length (p .items)) (length (p .needs)) seen weak reach paths moved placed from to next-out next-in heads-out heads-in «open» order list) where
+    pub lay-room : LayRoom (wordsFor (s .count)) (s .count) own (matrices seen weak reach paths) from to heads-out next-out heads-in next-in
     lay-room =
         record {
           space =
               record {
-                seen-rows = matrix-rows (s .count) seen items-most (a .seen-size);
-                seen-most = omega (arith, a .seen-size);
-                weak-rows = matrix-rows (s .count) weak items-most (a .weak-size);
-                reach-rows = matrix-rows (s .count) reach items-most (a .reach-size);
-                paths-rows = matrix-rows (s .count) paths items-most (a .paths-size);
+                seen-rows = own-rows seen (a .seen-size);
+                seen-most = a .seen-most;
+                weak-rows = own-rows weak (a .weak-size);
+                reach-rows = own-rows reach (a .reach-size);
+                paths-rows = own-rows paths (a .paths-size);
               };
           most = items-most;
-          needs-most = subst (λ (l : List Need). length l ≤ needLimit) (h .needs-are) (h .accepted .needs-most);
-          from-size = a .from-size;
-          to-size = a .to-size;
+          needs-most = omega (arith, h .needs-own .few, h .accepted .needs-most);
+          from-size = omega (arith, h .needs-own .few, a .from-size);
+          to-size = omega (arith, h .needs-own .few, a .to-size);
           heads-out-size = a .heads-out-size;
-          next-out-size = a .next-out-size;
+          next-out-size = omega (arith, h .needs-own .few, a .next-out-size);
           heads-in-size = a .heads-in-size;
-          next-in-size = a .next-in-size;
+          next-in-size = omega (arith, h .needs-own .few, a .next-in-size);
         }
 
     -- the needs laid out
     module _ {to′ heads-out′ next-out′ from′ heads-in′ next-in′ paths′ weak′ : List ℕ}
-        (l : NeedsLaid (s .count) (needsAmong (take (s .count) rows) (needRows needs)) to′ heads-out′ next-out′ from′ heads-in′ next-in′ paths′ weak′
+        (l : NeedsLaid (s .count) (needsAmong (take (s .count) rows) own) to′ heads-out′ next-out′ from′ heads-in′ next-in′ paths′ weak′
         (64 * wordsFor (s .count))) where
       group-laid : Laid (groupOf p modules) to′ heads-out′ next-out′ from′ heads-in′ next-in′ paths′ weak′ kinds low high (64 * wordsFor (s .count))
       unfolding pathHolds weightOf isMaybe
@@ -171,11 +186,11 @@ module _ {p : Project} {needs modules rows kinds low high starts numbers : List 
       walkable e =
           record {
             laid = group-laid;
-            listable = listable (h .accepted) (h .giving) (h .numbered .splits) e (a .list-size);
+            listable = listable (h .accepted) (h .giving) (h .numbered .splits) e (first-fits (a .list-size));
             count-is = items-are;
             placed-size = a .placed-size;
-            moved-size = rw (← items-are) (matrix-rows (s .count) moved items-most (a .moved-size) .size);
+            moved-size = rw (← items-are) (own-rows moved (a .moved-size) .size);
             open-size = a .open-size;
             order-size = a .order-size;
-            list-size = a .list-size;
+            first-most = omega (arith, firstList-limit (h .accepted) (h .giving));
           }

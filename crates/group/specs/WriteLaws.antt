@@ -13,7 +13,9 @@ use Rattle.laws.specs.Orders.{getD-∈}
 use Rattle.lists.specs.Stacks.{stack}
 use Rattle.lists.specs.StackLaws.{stack-length, stack-reverse}
 use Rattle.stmt.specs.declared.walk.Ending.{Ending as WalkEnding}
-use Rattle.stmt.specs.declared.walk.Ending.the-variants.{Finished as WalkFinished, Spent as WalkSpent, Full as WalkFull}
+use Rattle.stmt.specs.declared.walk.Ending.the-variants.{Finished as WalkFinished, Spent as WalkSpent, Full as WalkFull, Crowded as WalkCrowded}
+use Rattle.stmt.specs.declared.walk.ItemWalk.{ItemWalk}
+use Rattle.group.specs.LongLaws.{never-crowds}
 use Rattle.stmt.specs.Walks.{Ended, has-finished as walk-finished, was-spent as walk-spent, list-was-full}
 use Rattle.group.specs.declared.Ending.the-variants.{Finished, Spent, Full}
 use Rattle.group.specs.Written.{rowsOf, WriteRoom, Endable}
@@ -70,6 +72,9 @@ module _ {stop : Stop ItemState} {e : WalkEnding} {order rows : List ℕ} {n : �
   unfolding orderOf
   ends-full f = was-full (ap (orderOf (take n rows)) (walk-was-full f (h .ended))) refl
 
+  pub never-crowded-end : {w : ItemWalk} → e ≡ WalkCrowded w made → ⊥
+  never-crowded-end f = never-crowds (subst (Ended stop n order) f (h .ended))
+
   module _ (f : e ≡ WalkFinished made) where
     last : (s : ItemState) × (stop ≡ finished s made) × (stack order n ≡ placedOf s)
     last = walk-has-finished f (h .ended)
@@ -90,8 +95,9 @@ module _ {stop : Stop ItemState} {e : WalkEnding} {order rows : List ℕ} {n : �
     write-room =
         record {
           order-size = h .order-size;
-          numbers-below = λ j g. omega (arith, at-number j g, h .rows-size);
-          rows-below = λ j g. h .rows-below (getD order j 0) (at-number j g);
+          rows-size = h .rows-size;
+          numbers-below = at-number;
+          rows-below = h .rows-below;
           room = h .room;
         }
 

@@ -17,8 +17,9 @@ rowsOf rows numbers = map (λ x. getD rows x 0) numbers
 -- Room for the rows of n numbers in an order, from `at` on; each row fits a byte.
 pub record WriteRoom (order rows : List ℕ) (n : ℕ) (out : List ℕ) («at» : ℕ) : Type 0 where
   pub order-size : n ≤ length order
-  pub numbers-below : (j : ℕ) → j < n → getD order j 0 < length rows
-  pub rows-below : (j : ℕ) → j < n → getD rows (getD order j 0) 0 < itemLimit
+  pub rows-size : n ≤ length rows
+  pub numbers-below : (j : ℕ) → j < n → getD order j 0 < n
+  pub rows-below : (x : ℕ) → x < n → getD rows x 0 < itemLimit
   pub room : «at» + n ≤ length out
 
 -- A walk over n numbers has ended: what giving its order as rows relies on. Where it has finished, it has placed numbers below n.

@@ -1,5 +1,6 @@
 // The sort of one group's items (sort_stmts).
 ghost use Prim.Native.Nat.{_-_, _≤_};
+ghost use lib.ListN.{length};
 ghost use Rattle.rules.specs.Project.{Project};
 ghost use Rattle.rules.specs.Items.{sortModules};
 ghost use Rattle.rules.specs.Calls.{itemListLimit};
@@ -17,11 +18,14 @@ pub enum Ending {
     Full(u32),
 }
 
-// Sorts the kept items of a group's modules, `already` being the visits made before: the walk's outcome, and where it has finished, the rows from `at`
-// on, in their order. All other slices are working space, whose contents at the end are left free.
+// Sorts the kept items of a group's modules, whose needs stand along the chain from `first_need`, `already` being the visits made before: the walk's
+// outcome, and where it has finished, the rows from `at` on, in their order. All other slices are working space, whose contents at the end are left
+// free.
 pub fn sort_stmts(
     items: &[u8],
     needs: &[u8],
+    next_need: &[u16],
+    first_need: u16,
     next: &[u16],
     heads: &[u16],
     modules: &[u8],
@@ -52,11 +56,17 @@ pub fn sort_stmts(
     already: u32,
 ) -> Ending
     requires { ⌜ already ≤ allowance ⌝ }
-    requires { ⌜ ((p : Project) × Sortable p (now modules) (now items) (now needs) (now next) (now heads) (now out) «at») ⌝ }
-    requires { ⌜ Scratch (now rows) (now kinds) (now low) (now high) (now starts) (now numbers) (now seen) (now weak) (now reach) (now paths) (now moved)
-        (now placed) (now from) (now to) (now «next_out») (now «next_in») (now «heads_out») (now «heads_in») (now «open») (now order) (now list) ⌝ }
-    ensures { λ r. ⌜ ((p : Project) → Sortable p (now (modules .entry)) (now (items .entry)) (now (needs .entry)) (now (next .entry)) (now (heads .entry))
-        (now (out .entry)) «at»
+    requires { ⌜ ((p : Project)
+        × Sortable p (now modules) (now items) (now needs) (now «next_need») «first_need» (now next) (now heads) (now out) «at»
+        × Scratch (length (p .items)) (length (p .needs)) (now rows) (now kinds) (now low) (now high) (now starts) (now numbers) (now seen)
+        (now weak) (now reach) (now paths) (now moved) (now placed) (now from) (now to) (now «next_out») (now «next_in») (now «heads_out»)
+        (now «heads_in») (now «open») (now order) (now list)) ⌝ }
+    ensures { λ r. ⌜ ((p : Project) → Sortable p (now (modules .entry)) (now (items .entry)) (now (needs .entry))
+        (now («next_need» .entry)) «first_need» (now (next .entry)) (now (heads .entry)) (now (out .entry)) «at»
+        → Scratch (length (p .items)) (length (p .needs)) (now (rows .entry)) (now (kinds .entry)) (now (low .entry)) (now (high .entry))
+        (now (starts .entry)) (now (numbers .entry)) (now (seen .entry)) (now (weak .entry)) (now (reach .entry)) (now (paths .entry))
+        (now (moved .entry)) (now (placed .entry)) (now (from .entry)) (now (to .entry)) (now («next_out» .entry)) (now («next_in» .entry))
+        (now («heads_out» .entry)) (now («heads_in» .entry)) (now («open» .entry)) (now (order .entry)) (now (list .entry))
         → Sorted (sortModules p (now (modules .entry)) itemListLimit (allowance - already) already) «at» (now (out .entry)) (now (out .exit)) r) ⌝ }
 {
     let s = numbers::number_items(
@@ -73,6 +83,8 @@ pub fn sort_stmts(
     );
     let e = walking::walk_group(
         needs,
+        next_need,
+        first_need,
         modules,
         s,
         rows,

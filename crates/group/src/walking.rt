@@ -1,10 +1,14 @@
 // The walk of a group's items from its first list on.
 ghost use Prim.Native.Nat.{_-_, _≤_};
+ghost use mathlib.Core.Path.{_≡_};
+ghost use mathlib.Core.List.{_++_};
+ghost use lib.ListN.{length, take, drop};
 ghost use Rattle.rules.specs.Walk.{run as runs};
 ghost use Rattle.rules.specs.Project.{Project};
-ghost use Rattle.rules.specs.Items.{Group, groupOf, itemWalk, itemStart};
+ghost use Rattle.rules.specs.Items.{Group, groupOf, ItemState, itemWalk, itemStart};
+ghost use Rattle.laws.specs.Splits.{size};
 ghost use Rattle.rules.specs.Calls.{itemListLimit};
-ghost use Rattle.stmt.specs.Walks.{Ended};
+ghost use Rattle.stmt.specs.Walks.{Walking, Ended};
 ghost use Rattle.group.specs.Walking.{Walkable, GroupWalkable, WalkScratch};
 use graph::rows;
 use layout::lay_needs;
@@ -16,6 +20,165 @@ use stmt::walk::run;
 
 // The words of a row of bits for all items.
 const ITEM_WORDS: usize = 4;
+
+// Copies the first n entries of a list to a longer array.
+fn copy_list(list: &[u16], n: usize, long: &mut [u16])
+    requires { ⌜ (n ≤ length (now list)) × (n ≤ length (now long)) ⌝ }
+    ensures { λ _. ⌜ now (long .exit) ≡ take n (now (list .entry)) ++ drop n (now (long .entry)) ⌝ }
+{
+    let mut i = 0;
+    while i < n {
+        long[i] = list[i];
+        i += 1;
+    }
+}
+
+// Goes on with a walk whose list may not fit its array: on an array of the limit's size.
+fn walk_on(
+    to: &[u16],
+    heads_out: &[u16],
+    next_out: &[u16],
+    from: &[u16],
+    heads_in: &[u16],
+    next_in: &[u16],
+    paths: &[u64],
+    weak: &[u64],
+    kinds: &[u8],
+    low: &[u16],
+    high: &[u16],
+    width: usize,
+    placed: &mut [u64],
+    moved: &mut [u64],
+    open: &mut [u16],
+    order: &mut [u16],
+    list: &[u16],
+    n: usize,
+    w: ItemWalk,
+    allowance: u32,
+    made: u32,
+) -> Ending
+    requires { ⌜ made ≤ allowance ⌝ }
+    requires { ⌜ ((g : Group) × (s : ItemState) × (n ≡ size g) × Walking g (now to) (now «heads_out») (now «next_out») (now from) (now «heads_in»)
+        (now «next_in») (now paths) (now weak) (now kinds) (now low) (now high) width (now placed) (now moved) (now «open») (now order)
+        (now list) w s) ⌝ }
+    ensures { λ r. ⌜ ((g : Group) (s : ItemState) → n ≡ size g → Walking g (now (to .entry)) (now («heads_out» .entry)) (now («next_out» .entry))
+        (now (from .entry)) (now («heads_in» .entry)) (now («next_in» .entry)) (now (paths .entry)) (now (weak .entry)) (now (kinds .entry))
+        (now (low .entry)) (now (high .entry)) width (now (placed .entry)) (now (moved .entry)) (now («open» .entry)) (now (order .entry))
+        (now (list .entry)) w s
+        → Ended (runs (itemWalk g) itemListLimit (allowance - made) made s) n (now (order .exit)) r) ⌝ }
+{
+    let mut long = [0u16; ItemWalk::LIST];
+    copy_list(list, w.end, &mut long);
+    run(
+        to,
+        heads_out,
+        next_out,
+        from,
+        heads_in,
+        next_in,
+        paths,
+        weak,
+        kinds,
+        low,
+        high,
+        width,
+        placed,
+        moved,
+        open,
+        order,
+        &mut long,
+        n,
+        w,
+        allowance,
+        made,
+    )
+}
+
+// Visits until all n items are placed, the allowance is spent or the list is full, whatever the size of the list's array. Where the walk has finished,
+// `order` holds the numbers in their order; else it is left free, and so is the rest of the state.
+fn walk_all(
+    to: &[u16],
+    heads_out: &[u16],
+    next_out: &[u16],
+    from: &[u16],
+    heads_in: &[u16],
+    next_in: &[u16],
+    paths: &[u64],
+    weak: &[u64],
+    kinds: &[u8],
+    low: &[u16],
+    high: &[u16],
+    width: usize,
+    placed: &mut [u64],
+    moved: &mut [u64],
+    open: &mut [u16],
+    order: &mut [u16],
+    list: &mut [u16],
+    n: usize,
+    start: ItemWalk,
+    allowance: u32,
+    already: u32,
+) -> Ending
+    requires { ⌜ already ≤ allowance ⌝ }
+    requires { ⌜ ((g : Group) × (s : ItemState) × (n ≡ size g) × Walking g (now to) (now «heads_out») (now «next_out») (now from) (now «heads_in»)
+        (now «next_in») (now paths) (now weak) (now kinds) (now low) (now high) width (now placed) (now moved) (now «open») (now order)
+        (now list) start s) ⌝ }
+    ensures { λ r. ⌜ ((g : Group) (s : ItemState) → n ≡ size g → Walking g (now (to .entry)) (now («heads_out» .entry)) (now («next_out» .entry))
+        (now (from .entry)) (now («heads_in» .entry)) (now («next_in» .entry)) (now (paths .entry)) (now (weak .entry)) (now (kinds .entry))
+        (now (low .entry)) (now (high .entry)) width (now (placed .entry)) (now (moved .entry)) (now («open» .entry)) (now (order .entry))
+        (now (list .entry)) start s
+        → Ended (runs (itemWalk g) itemListLimit (allowance - already) already s) n (now (order .exit)) r) ⌝ }
+{
+    let e = run(
+        to,
+        heads_out,
+        next_out,
+        from,
+        heads_in,
+        next_in,
+        paths,
+        weak,
+        kinds,
+        low,
+        high,
+        width,
+        placed,
+        moved,
+        open,
+        order,
+        list,
+        n,
+        start,
+        allowance,
+        already,
+    );
+    let Ending::Crowded(w, made) = e else {
+        return e;
+    };
+    walk_on(
+        to,
+        heads_out,
+        next_out,
+        from,
+        heads_in,
+        next_in,
+        paths,
+        weak,
+        kinds,
+        low,
+        high,
+        width,
+        placed,
+        moved,
+        open,
+        order,
+        list,
+        n,
+        w,
+        allowance,
+        made,
+    )
+}
 
 // Walks the items of a group from its first list on, as the definition's run does. Where it has finished, `order` holds the numbers in their order;
 // else it is left free, and so is the rest of the state.
@@ -43,8 +206,8 @@ fn walk_items(
     already: u32,
 ) -> Ending
     requires { ⌜ already ≤ allowance ⌝ }
-    requires { ⌜ ((g : Group) × Walkable g (now to) (now «heads_out») (now «next_out») (now from) (now «heads_in») (now «next_in») (now paths) (now weak)
-        (now kinds) (now low) (now high) (now starts) s words (now placed) (now moved) (now «open») (now order) (now list)) ⌝ }
+    requires { ⌜ ((g : Group) × Walkable g (now to) (now «heads_out») (now «next_out») (now from) (now «heads_in») (now «next_in») (now paths)
+        (now weak) (now kinds) (now low) (now high) (now starts) s words (now placed) (now moved) (now «open») (now order) (now list)) ⌝ }
     ensures { λ r. ⌜ ((g : Group) → Walkable g (now (to .entry)) (now («heads_out» .entry)) (now («next_out» .entry)) (now (from .entry))
         (now («heads_in» .entry)) (now («next_in» .entry)) (now (paths .entry)) (now (weak .entry)) (now (kinds .entry)) (now (low .entry))
         (now (high .entry)) (now (starts .entry)) s words (now (placed .entry)) (now (moved .entry)) (now («open» .entry)) (now (order .entry))
@@ -56,7 +219,7 @@ fn walk_items(
     rows::clear_words(moved, n * words);
     let end = first_list(low, high, starts, s, list);
     let start = ItemWalk::new(end);
-    run(
+    walk_all(
         to,
         heads_out,
         next_out,
@@ -81,10 +244,12 @@ fn walk_items(
     )
 }
 
-// Lays out the needs of modules whose items are numbered, and walks the items. Where the walk has finished, `order` holds the numbers in their order;
-// else it is left free, and so are all other slices.
+// Lays out the needs of modules whose items are numbered, and walks the items. `first_need` begins the chain of the needs. Where the walk has
+// finished, `order` holds the numbers in their order; else it is left free, and so are all other slices.
 pub fn walk_group(
     needs: &[u8],
+    next_need: &[u16],
+    first_need: u16,
     modules: &[u8],
     s: Split,
     rows: &[u16],
@@ -112,18 +277,26 @@ pub fn walk_group(
     already: u32,
 ) -> Ending
     requires { ⌜ already ≤ allowance ⌝ }
-    requires { ⌜ ((p : Project) × GroupWalkable p (now needs) (now modules) (now rows) (now kinds) (now low) (now high) (now starts) (now numbers) s) ⌝ }
-    requires { ⌜ WalkScratch (now seen) (now weak) (now reach) (now paths) (now moved) (now placed) (now from) (now to) (now «next_out») (now «next_in»)
-        (now «heads_out») (now «heads_in») (now «open») (now order) (now list) ⌝ }
-    ensures { λ r. ⌜ ((p : Project) → GroupWalkable p (now (needs .entry)) (now (modules .entry)) (now (rows .entry)) (now (kinds .entry)) (now (low .entry))
-        (now (high .entry)) (now (starts .entry)) (now (numbers .entry)) s
-        → Ended (runs (itemWalk (groupOf p (now (modules .entry)))) itemListLimit (allowance - already) already (itemStart (groupOf p (now (modules .entry)))))
+    requires { ⌜ ((p : Project)
+        × GroupWalkable p (now needs) (now «next_need») «first_need» (now modules) (now rows) (now kinds) (now low) (now high) (now starts)
+        (now numbers) s
+        × WalkScratch (length (p .items)) (length (p .needs)) (now seen) (now weak) (now reach) (now paths) (now moved) (now placed) (now from) (now to)
+        (now «next_out») (now «next_in») (now «heads_out») (now «heads_in») (now «open») (now order) (now list)) ⌝ }
+    ensures { λ r. ⌜ ((p : Project) → GroupWalkable p (now (needs .entry)) (now («next_need» .entry)) «first_need» (now (modules .entry))
+        (now (rows .entry)) (now (kinds .entry)) (now (low .entry)) (now (high .entry)) (now (starts .entry)) (now (numbers .entry)) s
+        → WalkScratch (length (p .items)) (length (p .needs)) (now (seen .entry)) (now (weak .entry)) (now (reach .entry)) (now (paths .entry))
+        (now (moved .entry)) (now (placed .entry)) (now (from .entry)) (now (to .entry)) (now («next_out» .entry)) (now («next_in» .entry))
+        (now («heads_out» .entry)) (now («heads_in» .entry)) (now («open» .entry)) (now (order .entry)) (now (list .entry))
+        → Ended (runs (itemWalk (groupOf p (now (modules .entry)))) itemListLimit (allowance - already) already (itemStart (groupOf p
+        (now (modules .entry)))))
         (s .count) (now (order .exit)) r) ⌝ }
 {
     let n = s.count;
     let words = (n + 63) / 64;
     lay_needs(
         needs,
+        next_need,
+        first_need,
         rows,
         n,
         numbers,

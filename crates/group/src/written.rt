@@ -42,5 +42,7 @@ pub fn end_sort(
             write_rows(order, rows, n, out, at);
             Ending::Finished(at + n, made)
         }
+        // No walk ends so.
+        walk::Ending::Crowded(_, made) => Ending::Spent(made),
     }
 }

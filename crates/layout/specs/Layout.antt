@@ -13,12 +13,12 @@ pub record LayRoom (words n : ℕ) (needs : List Need) (m : Matrices) (from to h
   pub space : Space words n m
   pub most : n ≤ itemLimit
   pub needs-most : length needs ≤ needLimit
-  pub from-size : length from ≡ needLimit
-  pub to-size : length to ≡ needLimit
+  pub from-size : length needs ≤ length from
+  pub to-size : length needs ≤ length to
   pub heads-out-size : length heads-out ≡ itemLimit
-  pub next-out-size : length next-out ≡ needLimit
+  pub next-out-size : length needs ≤ length next-out
   pub heads-in-size : length heads-in ≡ itemLimit
-  pub next-in-size : length next-in ≡ needLimit
+  pub next-in-size : length needs ≤ length next-in
 
 -- Needs of n items, in row order: dependencies and dependants as chains, and tables of the record of paths and of the weights that are Maybe.
 pub record NeedsLaid (n : ℕ) (needs : List Need) (to heads-out next-out from heads-in next-in paths weak : List ℕ) (width : ℕ) : Type 0 where

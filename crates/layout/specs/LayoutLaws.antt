@@ -55,23 +55,26 @@ module _ {words n : ℕ} {needs : List Need} {m : Matrices} {from to heads-out n
   needs-room c =
       record {
         shows = c .shows from to;
-        from-room = omega (arith, room .from-size, room .needs-most);
-        to-room = omega (arith, room .to-size, room .needs-most);
+        from-room = room .from-size;
+        to-room = room .to-size;
       }
 
   -- after adding the needs that are among some rows
   module _ (rows : List ℕ) {m′ : Matrices} {from′ to′ : List ℕ} {count : ℕ} (s : Shows words n (reverse (needsAmong rows needs)) m′ from′ to′ count) where
+    fewer : count ≤ length needs
+    fewer = omega (arith, shows-count s, among-most rows needs)
+
     most-pairs : count ≤ needLimit
-    most-pairs = omega (arith, shows-count s, among-most rows needs, room .needs-most)
+    most-pairs = omega (arith, fewer, room .needs-most)
 
     pub linkable : length from′ ≡ length from → length to′ ≡ length to → LinkRoom from′ to′ count heads-out next-out heads-in next-in
     linkable f t =
         record {
           most = omega (arith, most-pairs);
-          from-size = omega (arith, most-pairs, room .from-size);
-          to-size = omega (arith, most-pairs, room .to-size);
-          next-out-size = omega (arith, most-pairs, room .next-out-size);
-          next-in-size = omega (arith, most-pairs, room .next-in-size);
+          from-size = omega (arith, fewer, room .from-size);
+          to-size = omega (arith, fewer, room .to-size);
+          next-out-size = omega (arith, fewer, room .next-out-size);
+          next-in-size = omega (arith, fewer, room .next-in-size);
           heads-size = room .heads-in-size ∙ sym (room .heads-out-size);
           from-below = λ i h. omega (arith, s .from-below i h, room .most, room .heads-out-size);
           to-below = λ i h. omega (arith, s .to-below i h, room .most, room .heads-out-size);

@@ -1,21 +1,24 @@
 -- Laws of adding a group's needs. Assumes nothing.
-use Prim.Native.Nat.{ℕ, suc, _+_, _-_, _≤_, _<_}
+use Prim.Native.Nat.{ℕ, zero, suc, _+_, _-_, _≤_, _<_}
 use native.Mathlib.Omega.{arith}
+use native.Mathlib.Numerals.{sub-one}
 use mathlib.Core.Path.{_≡_, refl, sym, ap, _∙_}
 use mathlib.Core.Bool.{Bool, true, false, _&&_, and-false}
 use mathlib.Core.List.{List, [], _∷_, _++_, map, reverse, reverse-cons, append-assoc, append-nil}
-use lib.ListN.{length, getD, drop}
+use lib.ListN.{length, getD}
 use Rattle.rules.specs.Lists.{consIf, keep, elem}
-use Rattle.rules.specs.Project.{Need, needRow, needRows}
+use Rattle.rules.specs.Project.{Need, needRow, needLimit}
 use Rattle.rules.specs.Items.{numberOf, isAmong, numbered}
 use Rattle.laws.specs.Lists.{Tested, holds, fails, tested}
 use Rattle.laws.specs.Orders.{and-true}
-use Rattle.project.specs.RowLaws.{needs-at, needs-end}
+use Rattle.lists.specs.Pairs.{Onward}
+use Rattle.lists.specs.ChainLaws.{chain-end, chain-step, left}
+use Rattle.owners.specs.Owners.{needAt, NeedsAlong}
 use Rattle.graph.specs.Graph.{Matrices, Shows, EdgeRoom, EdgeAdded}
 use Rattle.graph.specs.GraphLaws.{edge-room}
 use Rattle.layout.specs.Numbers.{numberIn}
 use Rattle.layout.specs.NumberLaws.{NumberedAs, is-in, is-out, numbered-as}
-use Rattle.layout.specs.Needs.{needsAmong, addNeed, addNeeds, NeedRoom, NeedsRoom, Adding}
+use Rattle.layout.specs.Needs.{needsAmong, addNeed, addNeeds, NeedRoom, NeedsRoom, needsFrom, Adding}
 
 -- A need is added where both ends have numbers, and else not.
 among-fails : (rows : List ℕ) (n : Need) → isAmong rows n ≡ false → (graph : List Need) → addNeed rows graph n ≡ graph
@@ -87,33 +90,58 @@ adds-all rows graph (n ∷ needs) = adds-all rows (addNeed rows graph n) needs �
 pub adds-some : (rows : List ℕ) (needs : List Need) → addNeeds rows [] needs ≡ reverse (needsAmong rows needs)
 adds-some rows needs = adds-all rows [] needs ∙ append-nil (reverse (needsAmong rows needs))
 
--- Adding them one after the other.
-module _ {rows section : List ℕ} {words n : ℕ} where
-  pub adding-start : {m : Matrices} {from to : List ℕ} → NeedsRoom words n (needRows section) m from to → Adding rows section words n 0 m from to 0
-  adding-start r = record { graph = []; shows = r .shows; left = omega arith; same = refl }
+-- Adding them along a chain, one after the other.
+module _ {section next : List ℕ} {head : ℕ} {needs : List Need} (a : NeedsAlong section next head needs) where
+  abbrev rest : ℕ → List Need
+  rest e = needsFrom section next (a .count) e
 
-  module _ {i : ℕ} {m : Matrices} {from to : List ℕ} {count : ℕ} (a : Adding rows section words n i m from to count) where
-    module _ (h : i + 2 < length section) where
-      abbrev here : Need
-      here = needRow (getD section i 0) (getD section (i + 1) 0) (getD section (i + 2) 0)
+  rest-step : (e : ℕ) → 0 < e → e ≤ a .count → rest e ≡ needAt section (e - 1) ∷ rest (getD next (e - 1) 0)
+  rest-step zero h g = absurd (omega arith)
+  rest-step (suc i) h g = rw sub-one (ap (map (needAt section)) (chain-step (a .count) 0 next (λ j _. a .next-onward j) i (omega arith) g))
 
-      one-less : length (needRows (drop i section)) ≡ suc (length (needRows (drop (i + 3) section)))
-      one-less = ap (λ (l : List Need). length l) (needs-at section i h)
+  -- the measure of the loop
+  pub needs-less : (e : ℕ) → 0 < e → e ≤ a .count → left needLimit (getD next (e - 1) 0) < left needLimit e
+  unfolding left
+  needs-less zero h g = absurd (omega arith)
+  needs-less (suc i) h g = rw sub-one (go (getD next i 0) (a .next-onward i g))
+    where
+      go : (e : ℕ) → Onward (suc i) (a .count) e → left needLimit e < left needLimit (suc i)
+      go zero o = omega (arith, a .most)
+      go (suc j) o = omega (arith, o .0 (omega arith), a .most)
 
-      pub adding-room : length (needRows section) ≤ length from → length (needRows section) ≤ length to → NeedRoom words n (a .graph) m from to count
-      adding-room f t = record { shows = a .shows; from-room = omega (arith, a .left, one-less); to-room = omega (arith, a .left, one-less) }
+  pub adding-start : {rows : List ℕ} {words n : ℕ} {m : Matrices} {from to : List ℕ} → NeedsRoom words n needs m from to → Adding rows section next (a .count) head needs words n m from to 0
+  adding-start {rows} r =
+      record {
+        most = a .head-most;
+        graph = [];
+        shows = r .shows;
+        left = omega (arith, ap length (a .along));
+        same = ap (addNeeds rows []) (a .along);
+      }
 
-      pub adding-next : {m′ : Matrices} {from′ to′ : List ℕ} {count′ : ℕ} → Shows words n (addNeed rows (a .graph) here) m′ from′ to′ count′
-          → Adding rows section words n (i + 3) m′ from′ to′ count′
+  module _ {rows : List ℕ} {e words n : ℕ} {m : Matrices} {from to : List ℕ} {count : ℕ} (s : Adding rows section next (a .count) e needs words n m from to count) where
+    module _ (h : 0 < e) where
+      one-less : length (rest e) ≡ suc (length (rest (getD next (e - 1) 0)))
+      one-less = ap (λ (l : List Need). length l) (rest-step e h (s .most))
+
+      pub adding-room : length needs ≤ length from → length needs ≤ length to → NeedRoom words n (s .graph) m from to count
+      adding-room f t = record { shows = s .shows; from-room = omega (arith, s .left, one-less); to-room = omega (arith, s .left, one-less) }
+
+      pub adding-next : {m′ : Matrices} {from′ to′ : List ℕ} {count′ : ℕ}
+          → Shows words n (addNeed rows (s .graph) (needAt section (e - 1))) m′ from′ to′ count′
+          → Adding rows section next (a .count) (getD next (e - 1) 0) needs words n m′ from′ to′ count′
       unfolding addNeeds
-      adding-next s =
+      adding-next shown =
           record {
-            graph = addNeed rows (a .graph) here;
-            shows = s;
-            left = omega (arith, a .left, one-less, most-one rows (a .graph) here);
-            same = (rw (needs-at section i h) at (a .same));
+            most = a .next-onward (e - 1) (omega (arith, s .most)) .1;
+            graph = addNeed rows (s .graph) (needAt section (e - 1));
+            shows = shown;
+            left = omega (arith, s .left, one-less, most-one rows (s .graph) (needAt section (e - 1)));
+            same = (rw (rest-step e h (s .most)) at (s .same));
           }
 
-    pub adding-end : length section ≤ i + 2 → Shows words n (reverse (needsAmong rows (needRows section))) m from to count
+    pub adding-end : e ≡ 0 → Shows words n (reverse (needsAmong rows needs)) m from to count
     unfolding addNeeds
-    adding-end h = rw (← adds-some rows (needRows section), ← (rw (needs-end section i h) at (a .same))) (a .shows)
+    adding-end h =
+        let none : rest e ≡ [] = ap (λ (k : ℕ). rest k) h ∙ ap (map (needAt section)) (chain-end next (a .count)) in
+        rw (← adds-some rows needs, ← (rw none at (s .same))) (s .shows)

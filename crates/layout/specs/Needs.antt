@@ -2,15 +2,24 @@
 use Prim.Native.Nat.{ℕ, _+_, _≤_, _<_}
 use mathlib.Core.Path.{_≡_}
 use mathlib.Core.List.{List, [], _∷_, map}
-use lib.ListN.{length, drop}
+use lib.ListN.{length}
 use Rattle.rules.specs.Lists.{consIf, keep}
-use Rattle.rules.specs.Project.{Need, needRows}
-use Rattle.rules.specs.Items.{isAmong, numbered}
+use Rattle.rules.specs.Project.{Project, Need}
+use Rattle.rules.specs.Items.{isAmong, numbered, numbering}
+use Rattle.lists.specs.Pairs.{chain}
+use Rattle.owners.specs.Owners.{needAt, NeedsAlong}
 use Rattle.graph.specs.Graph.{Matrices, Shows}
 
 -- the needs whose two ends are among the rows, by their numbers
 abbrev pub needsAmong : List ℕ → List Need → List Need
 needsAmong rows needs = map (numbered rows) (keep (isAmong rows) needs)
+
+-- Along the chain from `head` stand needs of a project, and among them all whose two ends are rows of some modules.
+pub record OwnNeeds (p : Project) (modules section next : List ℕ) (head : ℕ) : Type 0 where
+  pub own : List Need
+  pub along : NeedsAlong section next head own
+  pub few : length own ≤ length (p .needs)
+  pub among : needsAmong (numbering p modules) own ≡ needsAmong (numbering p modules) (p .needs)
 
 -- a graph with one need added, or with none where its ends are not among the rows
 unfoldable pub addNeed : List ℕ → List Need → Need → List Need
@@ -32,9 +41,14 @@ pub record NeedsRoom (words n : ℕ) (needs : List Need) (m : Matrices) (from to
   pub from-room : length needs ≤ length from
   pub to-room : length needs ≤ length to
 
--- In the midst of adding the needs of a section: the rows before byte i are added.
-pub record Adding (rows : List ℕ) (section : List ℕ) (words n i : ℕ) (m : Matrices) (from to : List ℕ) (count : ℕ) : Type 0 where
+-- the needs along the rest of a chain
+abbrev pub needsFrom : List ℕ → List ℕ → ℕ → ℕ → List Need
+needsFrom section next bound e = map (needAt section) (chain next bound e)
+
+-- In the midst of adding needs along a chain: those before entry e are added.
+pub record Adding (rows section next : List ℕ) (bound e : ℕ) (needs : List Need) (words n : ℕ) (m : Matrices) (from to : List ℕ) (count : ℕ) : Type 0 where
+  pub most : e ≤ bound
   pub graph : List Need
   pub shows : Shows words n graph m from to count
-  pub left : length graph + length (needRows (drop i section)) ≤ length (needRows section)
-  pub same : addNeeds rows graph (needRows (drop i section)) ≡ addNeeds rows [] (needRows section)
+  pub left : length graph + length (needsFrom section next bound e) ≤ length needs
+  pub same : addNeeds rows graph (needsFrom section next bound e) ≡ addNeeds rows [] needs

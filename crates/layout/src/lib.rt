@@ -4,7 +4,9 @@ pub mod numbers;
 
 ghost use Prim.Native.Nat.{_*_};
 ghost use lib.ListN.{take};
-ghost use Rattle.rules.specs.Project.{needRows};
+ghost use mathlib.Core.List.{List};
+ghost use Rattle.rules.specs.Project.{Need};
+ghost use Rattle.owners.specs.Owners.{NeedsAlong};
 ghost use Rattle.graph.specs.Graph.{matrices};
 ghost use Rattle.layout.specs.Numbers.{Numbers};
 ghost use Rattle.layout.specs.Needs.{needsAmong};
@@ -13,10 +15,13 @@ use graph;
 use graph::neighbours;
 use needs::add_needs;
 
-// Lays out the needs whose two ends are among the first n rows, by their numbers: dependencies and dependants as chains, paths and weights as tables
-// with rows of `words` words. `seen` and `reach`, and of the other slices what is in no row, chain or place in use, are left free.
+// Lays out the needs along a chain whose two ends are among the first n rows, by their numbers: dependencies and dependants as chains, paths and
+// weights as tables with rows of `words` words. `head` begins the chain: an entry is one more than a need's row, and 0 ends it. `seen` and `reach`,
+// and of the other slices what is in no row, chain or place in use, are left free.
 pub fn lay_needs(
     needs: &[u8],
+    next: &[u16],
+    head: u16,
     rows: &[u16],
     n: usize,
     numbers: &[u16],
@@ -33,15 +38,20 @@ pub fn lay_needs(
     next_in: &mut [u16],
 )
     requires { ⌜ Numbers (now rows) n (now numbers) ⌝ }
-    requires { ⌜ LayRoom words n (needRows (now needs)) (matrices (now seen) (now weak) (now reach) (now paths)) (now from) (now to) (now «heads_out»)
-        (now «next_out») (now «heads_in») (now «next_in») ⌝ }
-    ensures { λ _. ⌜
-        NeedsLaid n (needsAmong (take n (now (rows .entry))) (needRows (now (needs .entry)))) (now (to .exit)) (now («heads_out» .exit))
-        (now («next_out» .exit)) (now (from .exit)) (now («heads_in» .exit)) (now («next_in» .exit)) (now (paths .exit)) (now (weak .exit)) (64 * words) ⌝ }
+    requires { ⌜ ((own : List Need) × NeedsAlong (now needs) (now next) head own
+        × LayRoom words n own (matrices (now seen) (now weak) (now reach) (now paths)) (now from) (now to) (now «heads_out») (now «next_out»)
+        (now «heads_in») (now «next_in»)) ⌝ }
+    ensures { λ _. ⌜ ((own : List Need) → NeedsAlong (now (needs .entry)) (now (next .entry)) head own
+        → LayRoom words n own (matrices (now (seen .entry)) (now (weak .entry)) (now (reach .entry)) (now (paths .entry))) (now (from .entry))
+        (now (to .entry)) (now («heads_out» .entry)) (now («next_out» .entry)) (now («heads_in» .entry)) (now («next_in» .entry))
+        → NeedsLaid n (needsAmong (take n (now (rows .entry))) own) (now (to .exit)) (now («heads_out» .exit)) (now («next_out» .exit))
+        (now (from .exit)) (now («heads_in» .exit)) (now («next_in» .exit)) (now (paths .exit)) (now (weak .exit)) (64 * words)) ⌝ }
 {
     graph::clear(seen, weak, reach, paths, words, n);
     let count = add_needs(
         needs,
+        next,
+        head,
         rows,
         n,
         numbers,

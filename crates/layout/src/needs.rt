@@ -1,7 +1,8 @@
 // The needs of a group, added to its graph by the numbers of their items.
 ghost use mathlib.Core.List.{List, reverse};
 ghost use lib.ListN.{take};
-ghost use Rattle.rules.specs.Project.{Need, needRow, needRows};
+ghost use Rattle.rules.specs.Project.{Need, needRow};
+ghost use Rattle.owners.specs.Owners.{NeedsAlong};
 ghost use Rattle.graph.specs.Graph.{matrices, Shows};
 ghost use Rattle.layout.specs.Numbers.{Numbers};
 ghost use Rattle.layout.specs.Needs.{addNeed, needsAmong, NeedRoom, NeedsRoom};
@@ -58,10 +59,12 @@ fn add_need(
     )
 }
 
-// Adds, in row order, the needs whose two ends are among the first n rows to the graph without needs; the number of different pairs. What add_need
-// leaves free is left free.
+// Adds, in their order, the needs along a chain whose two ends are among the first n rows to the graph without needs; the number of different pairs.
+// `head` begins the chain: an entry is one more than a need's row, and 0 ends it. What add_need leaves free is left free.
 pub fn add_needs(
     needs: &[u8],
+    next: &[u16],
+    head: u16,
     rows: &[u16],
     n: usize,
     numbers: &[u16],
@@ -74,17 +77,21 @@ pub fn add_needs(
     to: &mut [u16],
 ) -> usize
     requires { ⌜ Numbers (now rows) n (now numbers) ⌝ }
-    requires { ⌜ NeedsRoom words n (needRows (now needs)) (matrices (now seen) (now weak) (now reach) (now paths)) (now from) (now to) ⌝ }
-    ensures { λ r. ⌜
-        Shows words n (reverse (needsAmong (take n (now (rows .entry))) (needRows (now (needs .entry)))))
-        (matrices (now (seen .exit)) (now (weak .exit)) (now (reach .exit)) (now (paths .exit))) (now (from .exit)) (now (to .exit)) r ⌝ }
+    requires { ⌜ ((own : List Need) × NeedsAlong (now needs) (now next) head own
+        × NeedsRoom words n own (matrices (now seen) (now weak) (now reach) (now paths)) (now from) (now to)) ⌝ }
+    ensures { λ r. ⌜ ((own : List Need) → NeedsAlong (now (needs .entry)) (now (next .entry)) head own
+        → NeedsRoom words n own (matrices (now (seen .entry)) (now (weak .entry)) (now (reach .entry)) (now (paths .entry))) (now (from .entry))
+        (now (to .entry))
+        → Shows words n (reverse (needsAmong (take n (now (rows .entry))) own))
+        (matrices (now (seen .exit)) (now (weak .exit)) (now (reach .exit)) (now (paths .exit))) (now (from .exit)) (now (to .exit)) r) ⌝ }
 {
     let mut count = 0;
-    let mut i = 0;
-    while i + 2 < needs.len() {
-        let dependant = needs[i];
-        let dependency = needs[i + 1];
-        let weight = needs[i + 2];
+    let mut e = head as usize;
+    while e != 0 {
+        let i = e - 1;
+        let dependant = needs[3 * i];
+        let dependency = needs[3 * i + 1];
+        let weight = needs[3 * i + 2];
         count = add_need(
             rows,
             n,
@@ -101,7 +108,7 @@ pub fn add_needs(
             to,
             count,
         );
-        i += 3;
+        e = next[i] as usize;
     }
     count
 }

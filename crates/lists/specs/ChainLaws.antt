@@ -12,7 +12,7 @@ use Rattle.rules.specs.Lists.{consIf, positionsFrom}
 use Rattle.lists.specs.ArrayLaws.{after-set}
 use Rattle.lists.specs.Pairs.{chain, targets, Onward, Linked}
 
-chain-end : (next : List ℕ) (bound : ℕ) → chain next bound 0 ≡ []
+pub chain-end : (next : List ℕ) (bound : ℕ) → chain next bound 0 ≡ []
 unfolding chain
 chain-end next zero = refl
 chain-end next (suc bound) = refl

@@ -2,30 +2,36 @@
 use Prim.Native.Nat.{ℕ, zero, suc, _+_, _*_, _-_, _≤_, _<_}
 use native.Mathlib.Omega.{arith}
 use mathlib.Core.Path.{_≡_, refl, sym, ap, subst, _∙_}
-use mathlib.Core.Bool.{Bool, true, false, _||_}
-use mathlib.Core.List.{List, [], _∷_, _++_, reverse, reverse-cons, append-assoc, List·Memᴰ·not-nil}
-use lib.ListN.{length, getD, take, drop}
+use mathlib.Core.Bool.{Bool, true, false, not, _||_}
+use mathlib.Core.List.{List, [], _∷_, _++_, map, reverse, reverse-cons, append-assoc, List·Memᴰ·not-nil}
+use lib.Dec.{eqb}
+use lib.ListN.{length, getD, drop, length-append}
 use lib.Seq.{sets}
-use Rattle.rules.specs.Lists.{any, elem}
-use Rattle.rules.specs.Project.{Project, moduleLimit, itemLimit, needRows}
+use Rattle.rules.specs.Lists.{any, keep, elem}
+use Rattle.rules.specs.Project.{Project, Need, moduleLimit, itemLimit}
 use Rattle.rules.specs.Walk.{Stop, finished, spent, full}
 use Rattle.rules.specs.Modules.{isDone}
-use Rattle.rules.specs.Items.{keepsRowOrder, givingModules, givenRows, numbering, sortModules, sortGroup}
+use Rattle.rules.specs.Items.{keepsRowOrder, givingModules, givenRows, numbering, numbered, sortModules, sortGroup}
 use Rattle.rules.specs.Calls.{itemListLimit, groupBytes, continueWith, orderGroups}
-use Rattle.laws.specs.Lists.{_∈_, ∈-right, ∈-self, keep-∈, reverse-∈, Once, none}
+use Rattle.laws.specs.Lists.{_∈_, ∈-right, ∈-self, keep-∈, reverse-∈, true-elem, not-true, both, length-parts, Once, none}
 use Rattle.laws.specs.Counting.{Below}
-use Rattle.laws.specs.Splits.{once-givenRows, numbering-∈, once-numbering, giving}
+use Rattle.laws.specs.Terms.{moduleOf}
+use Rattle.laws.specs.Splits.{givenRows-∈, once-givenRows, numbering-∈, once-numbering, giving}
 use Rattle.laws.specs.OrderCalls.{given-belongs, Segment, segment}
 use Rattle.lists.specs.Bits.{bit}
 use Rattle.lists.specs.BitLaws.{bit-zero}
+use Rattle.owners.specs.GroupBytes.{membersAt, first-below, first-byte, first-within, first-members, first-past}
+use Rattle.owners.specs.Owners.{ownerOf, keyOf, NeedsChained}
+use Rattle.owners.specs.OwnerLaws.{owner-first, among-kept}
+use Rattle.layout.specs.Needs.{OwnNeeds}
 use Rattle.group.specs.Sorts.{Sortable, Sorted, has-finished, was-spent, was-full}
 use Rattle.group.specs.declared.Ending.{Ending}
 use Rattle.group.specs.declared.Ending.the-variants.{Finished, Spent, Full}
 use Rattle.order.specs.declared.Turn.{Turn}
 use Rattle.giving.specs.Giving.{Members, Stored}
-use Rattle.order.specs.Orders.{Ordered, has-finished as has-ordered, was-spent as order-spent, was-full as order-full, Ready, Taking, membersAt, Advanced, Took, Gave, Turning}
+use Rattle.order.specs.Orders.{Ordered, has-finished as has-ordered, was-spent as order-spent, was-full as order-full, Ready, Taking, Advanced, Took, Gave, Turning}
 use Rattle.giving.specs.StoreLaws.{stored-behind}
-use Rattle.order.specs.TurnLaws.{gave-more, gave-room, first-below, first-byte, first-within, first-members, first-past, sorted-most}
+use Rattle.order.specs.TurnLaws.{gave-more, gave-room, sorted-most}
 
 first-of : (l : List (List ℕ)) → 0 < length l → (g : List ℕ) × (rest : List (List ℕ)) × (l ≡ g ∷ rest)
 first-of [] h = absurd (omega arith)
@@ -83,12 +89,10 @@ module _ {p : Project} {groups : List (List ℕ)} {items next heads bytes : List
     byte-here = first-byte bytes (first .0) (first .1) (t .place) here
 
     pub turn-within : t .place + 1 + getD bytes (t .place) 0 ≤ length bytes
-    turn-within = omega (arith, byte-here, first-within bytes (first .0) (first .1) (t .place) here)
+    turn-within = first-within bytes (first .0) (first .1) (t .place) here
 
     members-are : members ≡ first .0
-    members-are =
-        let e : t .place + 1 + getD bytes (t .place) 0 - (t .place + 1) ≡ length (first .0) = omega (arith, byte-here) in
-        ap (λ (k : ℕ). take k (drop (t .place + 1) bytes)) e ∙ first-members bytes (first .0) (first .1) (t .place) here
+    members-are = first-members bytes (first .0) (first .1) (t .place) here
 
     member-in : members ∈ groups
     member-in = rw (s .parts) (∈-right (reverse (s .earlier)) (rw (first .2, members-are) ∈-self))
@@ -125,7 +129,7 @@ module _ {p : Project} {groups : List (List ℕ)} {items next heads bytes : List
           chains = ready .chains modules modules-below;
           room = omega (arith, given-room, s .out-is .count);
           some-left = some;
-          place-most = omega (arith, ap length members-are, first-within bytes (first .0) (first .1) (t .place) here, ready .bytes-most);
+          place-most = omega (arith, ap length members-are, byte-here, turn-within, ready .bytes-most);
         }
 
     -- The next turn.
@@ -148,7 +152,8 @@ module _ {p : Project} {groups : List (List ℕ)} {items next heads bytes : List
               s .parts ∙ ap (λ (l : List (List ℕ)). reverse (s .earlier) ++ l) rest
               ∙ sym (ap (λ (l : List (List ℕ)). l ++ first .1) (reverse-cons members (s .earlier)) ∙ append-assoc (reverse (s .earlier)) (members ∷ []) (first .1));
           bytes-left =
-              ap (λ (k : ℕ). drop k bytes) (a .place-is ∙ ap (λ (l : List ℕ). t .place + 1 + length l) members-are)
+              ap (λ (k : ℕ). drop k bytes)
+              (a .place-is ∙ ap (λ (l : List ℕ). t .place + 1 + length l) members-are ∙ ap (λ (k : ℕ). t .place + 1 + k) (sym byte-here))
               ∙ first-past bytes (first .0) (first .1) (t .place) here;
           left-is = omega (arith, a .left-is, s .left-is, ap length (first .2));
           used-shown = λ m. group-done m (a .used-is m);
@@ -177,15 +182,43 @@ module _ {p : Project} {groups : List (List ℕ)} {items next heads bytes : List
           ready .accepted .items-most,
         )
 
-    pub turn-sortable : {needs found : List ℕ} → p .needs ≡ needRows needs → length now ≡ itemLimit → found ≡ modules
-        → Sortable p found items needs next heads now (t .kept)
-    turn-sortable n size e =
+    -- a row of the group's modules is owned by it
+    own-row : (row : ℕ) → row ∈ numbering p modules → ownerOf p groups row ≡ t .left
+    unfolding givingModules ownerOf
+    own-row row h =
+        let r = givenRows-∈ p modules (numbering-∈ p modules h) in
+        let k = keep-∈ _ (reverse members) (r .1) in
+        let rest : s .rest ≡ members ∷ first .1 = first .2 ∙ ap (λ (g : List ℕ). g ∷ first .1) (sym members-are) in
+        owner-first (s .earlier) members (first .1) (moduleOf p row) (s .parts ∙ ap (λ (l : List (List ℕ)). reverse (s .earlier) ++ l) rest)
+        (true-elem (reverse-∈ members (k .0))) (not-true (both {a = not (isDone (s .earlier) (moduleOf p row))} (k .1) .0))
+        ∙ sym (s .left-is ∙ ap length (first .2))
+
+    own-needs : {needs next-need need-heads : List ℕ} → NeedsChained p groups needs next-need need-heads → t .left ≤ moduleLimit
+        → OwnNeeds p modules needs next-need (getD need-heads (t .left) 0)
+    own-needs c most =
+        record {
+          own = keep (λ (n : Need). eqb (keyOf p groups n) (t .left)) (p .needs);
+          along = c .chains (t .left) most;
+          few = omega (arith, length-parts (λ (n : Need). eqb (keyOf p groups n) (t .left)) (p .needs));
+          among = ap (map (numbered (numbering p modules))) (among-kept p groups (numbering p modules) (t .left) own-row (p .needs));
+        }
+
+    left-most : length groups ≤ moduleLimit → t .left ≤ moduleLimit
+    left-most most = omega (arith, s .left-is, ap length (s .parts), length-append (reverse (s .earlier)) (s .rest))
+
+    pub left-head : {needs next-need need-heads : List ℕ} → length groups ≤ moduleLimit → NeedsChained p groups needs next-need need-heads
+        → t .left < length need-heads
+    left-head most c = omega (arith, left-most most, c .heads-size)
+
+    pub turn-sortable : {needs next-need need-heads found : List ℕ} → length groups ≤ moduleLimit → NeedsChained p groups needs next-need need-heads
+        → length now ≡ itemLimit → found ≡ modules → Sortable p found items needs next-need (getD need-heads (t .left) 0) next heads now (t .kept)
+    turn-sortable most c size e =
         rw e
         (record {
           accepted = ready .accepted;
           giving = giving p (s .earlier) (turn-formed .once);
           chains = ready .chains modules modules-below;
-          needs-are = n;
+          needs-own = own-needs c (left-most most);
           room = omega (arith, numbering-room, s .out-is .count);
         })
 

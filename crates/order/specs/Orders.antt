@@ -4,7 +4,7 @@ use mathlib.Core.Path.{_≡_}
 use mathlib.Core.Bool.{Bool, true, not, _&&_, _||_}
 use mathlib.Core.List.{List, [], _++_, reverse}
 use lib.Dec.{eqb}
-use lib.ListN.{length, getD, take, drop}
+use lib.ListN.{length, drop}
 use lib.Seq.{sets}
 use Rattle.rules.specs.Lists.{isEmpty, any, keep, elem}
 use Rattle.rules.specs.Project.{Item, Import, Project, moduleLimit, itemLimit, itemRow, importRow, pairRows, needRows}
@@ -19,6 +19,8 @@ use Rattle.laws.specs.Accepted.{Accepted}
 use Rattle.laws.specs.OrderCalls.{EachOnce}
 use Rattle.lists.specs.Bits.{bit}
 use Rattle.split.specs.Splits.{RowsAlong, ModuleChains}
+use Rattle.owners.specs.Owners.{Owned, NeedsChained}
+use Rattle.group.specs.Walking.{Sized, FirstRoom}
 use Rattle.group.specs.declared.Ending.{Ending}
 use Rattle.group.specs.declared.Ending.the-variants.{Finished, Spent, Full}
 use Rattle.giving.specs.Giving.{Members, ImportersShown, Stored}
@@ -33,6 +35,7 @@ pub record Orderable (p : Project) (groups : List (List ℕ)) (items imports nee
   pub bytes-are : bytes ≡ groupBytes groups
   pub bytes-most : length bytes ≤ moduleLimit * (moduleLimit + 1)
   pub count-is : count ≡ length groups
+  pub count-most : count ≤ moduleLimit
   pub each-once : EachOnce groups
   pub members-below : (g : List ℕ) → g ∈ groups → Below (p .modules) g
   pub out-size : length out ≡ itemLimit
@@ -69,10 +72,6 @@ pub record Taking (p : Project) (earlier : List (List ℕ)) (members items next 
   pub some-left : 0 < t .left
   pub place-most : t .place + 1 + length members ≤ moduleLimit * (moduleLimit + 1)
 
--- the members of the group whose bytes begin at a place
-abbrev pub membersAt : List ℕ → ℕ → List ℕ
-membersAt bytes place = take (place + 1 + getD bytes place 0 - (place + 1)) (drop (place + 1) bytes)
-
 -- The turn after that of a group.
 pub record Advanced (members : List ℕ) (t : Turn) (kept made : ℕ) (r : Turn) : Type 0 where
   pub place-is : r .place ≡ t .place + 1 + length members
@@ -106,9 +105,40 @@ pub record Turning (p : Project) (groups : List (List ℕ)) (bytes : List ℕ) (
   pub made-most : t .made ≤ allowance
   pub same : orderGroups p itemListLimit allowance [] groups [] 0 ≡ orderGroups p itemListLimit allowance earlier rest rows (t .made)
 
--- What the turns from one on rely on.
-pub record Resuming (p : Project) (groups : List (List ℕ)) (items needs next heads bytes : List ℕ) (importers givers allowance : ℕ) (before now : List ℕ)
-    (t : Turn) : Type 0 where
+-- What the turns from one on rely on: the sections of items and needs, and all that turns rely on.
+pub record Resuming (p : Project) (groups : List (List ℕ)) (items needs next heads bytes : List ℕ) (count importers givers allowance : ℕ)
+    (before now : List ℕ) (t : Turn) : Type 0 where
+  pub items-are : p .items ≡ pairRows itemRow items
   pub needs-are : p .needs ≡ needRows needs
+  pub count-most : count ≤ moduleLimit
+  pub ready : Ready p groups items next heads bytes count importers givers now
+  pub turning : Turning p groups bytes allowance before now t
+
+-- The same with the owner of each module.
+pub record Owning (p : Project) (groups : List (List ℕ)) (items needs owners next heads bytes : List ℕ) (importers givers allowance : ℕ)
+    (before now : List ℕ) (t : Turn) : Type 0 where
+  pub owned : Owned p groups items needs owners
   pub ready : Ready p groups items next heads bytes (length groups) importers givers now
   pub turning : Turning p groups bytes allowance before now t
+
+-- The same with the needs chained by owners.
+pub record Sorting (p : Project) (groups : List (List ℕ)) (items needs next-need need-heads next heads bytes : List ℕ) (importers givers allowance : ℕ)
+    (before now : List ℕ) (t : Turn) : Type 0 where
+  pub groups-most : length groups ≤ moduleLimit
+  pub chained : NeedsChained p groups needs next-need need-heads
+  pub ready : Ready p groups items next heads bytes (length groups) importers givers now
+  pub turning : Turning p groups bytes allowance before now t
+
+-- The sizes of the arrays that are lent to the turns, whatever stands there, for a project with this many items and needs.
+pub record Lent (items needs : ℕ) (seen weak reach paths moved from to next-out next-in list : List ℕ) : Type 0 where
+  pub seen-size : Sized items seen
+  pub seen-most : length seen ≤ 65536
+  pub weak-size : Sized items weak
+  pub reach-size : Sized items reach
+  pub paths-size : Sized items paths
+  pub moved-size : Sized items moved
+  pub from-size : needs ≤ length from
+  pub to-size : needs ≤ length to
+  pub next-out-size : needs ≤ length next-out
+  pub next-in-size : needs ≤ length next-in
+  pub list-size : FirstRoom items list

@@ -1,5 +1,5 @@
 -- Laws of the sets that the turns rely on. Assumes nothing.
-use Prim.Native.Nat.{ℕ, suc, _<_}
+use Prim.Native.Nat.{ℕ, suc, _+_, _*_, _≤_, _<_}
 use native.Mathlib.Omega.{arith}
 use mathlib.Core.Path.{_≡_, refl, sym, ap, subst, _∙_}
 use mathlib.Core.Bool.{Bool, true, false, not, _&&_, _||_}
@@ -18,10 +18,12 @@ use Rattle.lists.specs.Bits.{bit}
 use Rattle.split.specs.SplitLaws.{keptRowsOf-positions}
 use Rattle.split.specs.RowChains.{RowsChainable, RowsChained}
 use Rattle.lists.specs.Arrays.{Zeros}
+use Rattle.owners.specs.KeyLaws.{items-fit, needs-fit}
+use Rattle.owners.specs.Owners.{Notable, OwnersShown, NeedsChainable, NeedsChained}
 use Rattle.order.specs.declared.Turn.{Turn}
 use Rattle.giving.specs.KeptLaws.{swap-and}
 use Rattle.giving.specs.Giving.{isImporter, isGiver}
-use Rattle.order.specs.Orders.{Orderable, Ready, Turning, Resuming}
+use Rattle.order.specs.Orders.{Orderable, Ready, Turning, Resuming, Owning, Sorting}
 
 -- A module imports where a row names it as the importer.
 module _ (p : Project) (m : ℕ) where
@@ -96,16 +98,18 @@ module _ {p : Project} {groups : List (List ℕ)} {items imports needs bytes : L
 
   pub resuming : {next heads now : List ℕ} {importers givers allowance : ℕ} {t : Turn} → Ready p groups items next heads bytes count importers givers out
       → length now ≡ length out → Turning p groups bytes allowance out now t
-      → Resuming p groups items needs next heads bytes importers givers allowance out now t
+      → Resuming p groups items needs next heads bytes count importers givers allowance out now t
   resuming r size t =
       record {
+        items-are = o .items-are;
         needs-are = o .needs-are;
+        count-most = o .count-most;
         ready = record {
           accepted = r .accepted;
           chains = r .chains;
           bytes-are = r .bytes-are;
           bytes-most = r .bytes-most;
-          count-is = refl;
+          count-is = r .count-is;
           each-once = r .each-once;
           members-below = r .members-below;
           imports-shown = r .imports-shown;
@@ -114,3 +118,58 @@ module _ {p : Project} {groups : List (List ℕ)} {items imports needs bytes : L
         };
         turning = t;
       }
+
+-- The turns from one on, with the owners noted and then the needs chained.
+module _ {p : Project} {groups : List (List ℕ)} {items needs next heads bytes : List ℕ} {count importers givers allowance : ℕ} {before now : List ℕ} {t : Turn}
+    (r : Resuming p groups items needs next heads bytes count importers givers allowance before now t) where
+  pub notable : {owners : List ℕ} → Zeros moduleLimit owners → Notable groups bytes count owners
+  notable z =
+      record {
+        bytes-are = r .ready .bytes-are;
+        count-is = r .ready .count-is;
+        count-most = r .count-most;
+        members-below = λ g m x k. omega (arith, r .ready .members-below g m x k, r .ready .accepted .modules-most);
+        owners-zero = z;
+      }
+
+  pub few-items : (k : ℕ) → length items ≤ 2 * k → length (p .items) ≤ k
+  few-items k h = rw (r .items-are) (items-fit items k h)
+
+  pub few-needs : (k : ℕ) → length needs ≤ 3 * k → length (p .needs) ≤ k
+  few-needs k h = rw (r .needs-are) (needs-fit needs k h)
+
+  pub owning : {owners : List ℕ} → OwnersShown groups owners → Owning p groups items needs owners next heads bytes importers givers allowance before now t
+  owning shown =
+      record {
+        owned =
+            record {
+              accepted = r .ready .accepted;
+              items-are = r .items-are;
+              needs-are = r .needs-are;
+              owners-shown = shown;
+              groups-most = omega (arith, r .count-most, r .ready .count-is);
+            };
+        ready = record {
+          accepted = r .ready .accepted;
+          chains = r .ready .chains;
+          bytes-are = r .ready .bytes-are;
+          bytes-most = r .ready .bytes-most;
+          count-is = refl;
+          each-once = r .ready .each-once;
+          members-below = r .ready .members-below;
+          imports-shown = r .ready .imports-shown;
+          gives-shown = r .ready .gives-shown;
+          out-size = r .ready .out-size;
+        };
+        turning = r .turning;
+      }
+
+module _ {p : Project} {groups : List (List ℕ)} {items needs owners next heads bytes : List ℕ} {importers givers allowance : ℕ} {before now : List ℕ} {t : Turn}
+    (o : Owning p groups items needs owners next heads bytes importers givers allowance before now t) where
+  pub needs-chainable : {keys need-heads next-need : List ℕ} → length (p .needs) ≤ length keys → length (p .needs) ≤ length next-need
+      → Zeros (moduleLimit + 1) need-heads → NeedsChainable p groups items needs owners keys need-heads next-need
+  needs-chainable k n z = record { owned = o .owned; keys-room = k; next-room = n; heads-zero = z }
+
+  pub sorting : {next-need need-heads : List ℕ} → NeedsChained p groups needs next-need need-heads
+      → Sorting p groups items needs next-need need-heads next heads bytes importers givers allowance before now t
+  sorting c = record { groups-most = o .owned .groups-most; chained = c; ready = o .ready; turning = o .turning }

@@ -86,30 +86,6 @@ module _ {p : Project} {earlier : List (List ℕ)} {rows : List ℕ} (g : Gave p
       (λ row m. ∈-upFrom 0 (length (p .items)) (omega arith) (omega (arith, gave-more .kept row m .item))) in
       omega (arith, length-append rows more, length-upFrom 0 (length (p .items)))
 
--- The bytes of groups, the first in front.
-module _ (bytes members : List ℕ) (groups : List (List ℕ)) (place : ℕ) (e : drop place bytes ≡ groupBytes (members ∷ groups)) where
-  bytes-first : drop place bytes ≡ length members ∷ (members ++ groupBytes groups)
-  unfolding groupBytes flatMap
-  bytes-first = e
-
-  pub first-below : place < length bytes
-  first-below = omega (arith, length-drop place bytes, ap length bytes-first)
-
-  pub first-byte : getD bytes place 0 ≡ length members
-  first-byte = let z : place + 0 ≡ place = omega arith in ap (λ (k : ℕ). getD bytes k 0) (sym z) ∙ sym (getD-drop place bytes 0 0) ∙ ap (λ (l : List ℕ). getD l 0 0) bytes-first
-
-  behind : drop (place + 1) bytes ≡ members ++ groupBytes groups
-  behind = sym (drop-drop 1 place bytes) ∙ ap (drop 1) bytes-first
-
-  pub first-within : place + 1 + length members ≤ length bytes
-  first-within = omega (arith, length-drop (place + 1) bytes, ap length behind, length-append members (groupBytes groups), first-below)
-
-  pub first-members : take (length members) (drop (place + 1) bytes) ≡ members
-  first-members = ap (take (length members)) behind ∙ take-append-seam members (groupBytes groups)
-
-  pub first-past : drop (place + 1 + length members) bytes ≡ groupBytes groups
-  first-past = sym (drop-drop (length members) (place + 1) bytes) ∙ ap (drop (length members)) behind ∙ drop-append-seam members (groupBytes groups)
-
 -- Visits of a sort stay within the allowance.
 unfoldable finishedWithin : ℕ → Stop (List ℕ) → Type 0
 finishedWithin most (finished rows n) = n ≤ most

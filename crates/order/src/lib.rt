@@ -2,14 +2,17 @@
 use giving::kept;
 use group::Ending;
 use group::sort_stmts;
+use owners::chain_needs;
+use owners::note_owners;
 use split::chains::chain_rows;
 ghost use Prim.Native.Nat.{ℕ, _+_, _*_, _≤_, _<_};
 ghost use mathlib.Core.List.{List, []};
 ghost use lib.ListN.{length};
-ghost use Rattle.rules.specs.Project.{Project, moduleLimit};
+ghost use Rattle.rules.specs.Project.{Project, moduleLimit, itemLimit, needLimit};
 ghost use Rattle.rules.specs.Calls.{itemListLimit, orderGroups};
+ghost use mathlib.Core.Path.{_≡_};
 ghost use Rattle.giving.specs.Giving.{Members};
-ghost use Rattle.order.specs.Orders.{Orderable, Ordered, Ready, Taking, Advanced, Took, Turning, Resuming};
+ghost use Rattle.order.specs.Orders.{Orderable, Ordered, Ready, Taking, Advanced, Took, Turning, Resuming, Owning, Sorting, Lent};
 
 // How far the turns have come: where the next group's bytes begin, how many groups are left, the modules that earlier groups list, the rows written
 // and the visits made.
@@ -69,7 +72,8 @@ fn keep_groups(
     givers: u64,
     out: &mut [u8],
 ) -> Turn
-    requires { ⌜ ((p : Project) × (groups : List (List ℕ)) × Ready p groups (now items) (now next) (now heads) (now bytes) count importers givers (now out)) ⌝ }
+    requires { ⌜ ((p : Project) × (groups : List (List ℕ)) × Ready p groups (now items) (now next) (now heads) (now bytes) count importers givers
+        (now out)) ⌝ }
     ensures { λ r. ⌜ ((p : Project) (groups : List (List ℕ)) (allowance : ℕ)
         → Ready p groups (now (items .entry)) (now (next .entry)) (now (heads .entry)) (now (bytes .entry)) count importers givers (now (out .entry))
         → Turning p groups (now (bytes .entry)) allowance (now (out .entry)) (now (out .exit)) r) ⌝ }
@@ -94,24 +98,42 @@ fn keep_groups(
     t
 }
 
-// The turns of the groups from `first` on, some of them sorted. The arrays that a sort needs are made once.
-fn sort_rest(
+// The turns of the groups from `first` on, some of them sorted. `need_heads` begins the chains of needs, by how many groups are left. The
+// slices behind `first` but `out` are working space, whose contents at the end are left free.
+fn sort_turns(
     items: &[u8],
     needs: &[u8],
+    next_need: &[u16],
+    need_heads: &[u16],
     next: &[u16],
     heads: &[u16],
     bytes: &[u8],
     importers: u64,
     givers: u64,
     first: Turn,
+    seen: &mut [u64],
+    weak: &mut [u64],
+    reach: &mut [u64],
+    paths: &mut [u64],
+    moved: &mut [u64],
+    from: &mut [u16],
+    to: &mut [u16],
+    next_out: &mut [u16],
+    next_in: &mut [u16],
+    list: &mut [u16],
     out: &mut [u8],
     allowance: u32,
 ) -> Ending
     requires { ⌜ ((p : Project) × (groups : List (List ℕ)) × (before : List ℕ)
-        × Resuming p groups (now items) (now needs) (now next) (now heads) (now bytes) importers givers allowance before (now out) first) ⌝ }
+        × Sorting p groups (now items) (now needs) (now «next_need») (now «need_heads») (now next) (now heads)
+        (now bytes) importers givers allowance before (now out) first
+        × Lent (length (p .items)) (length (p .needs)) (now seen) (now weak) (now reach) (now paths) (now moved) (now from) (now to)
+        (now «next_out») (now «next_in») (now list)) ⌝ }
     ensures { λ r. ⌜ ((p : Project) (groups : List (List ℕ)) (before : List ℕ)
-        → Resuming p groups (now (items .entry)) (now (needs .entry)) (now (next .entry)) (now (heads .entry)) (now (bytes .entry)) importers givers allowance
-        before (now (out .entry)) first
+        → Sorting p groups (now (items .entry)) (now (needs .entry)) (now («next_need» .entry)) (now («need_heads» .entry)) (now (next .entry))
+        (now (heads .entry)) (now (bytes .entry)) importers givers allowance before (now (out .entry)) first
+        → Lent (length (p .items)) (length (p .needs)) (now (seen .entry)) (now (weak .entry)) (now (reach .entry)) (now (paths .entry))
+        (now (moved .entry)) (now (from .entry)) (now (to .entry)) (now («next_out» .entry)) (now («next_in» .entry)) (now (list .entry))
         → Ordered (orderGroups p itemListLimit allowance [] groups [] 0) before (now (out .exit)) r) ⌝ }
 {
     let mut rows = [0u16; 256];
@@ -120,21 +142,11 @@ fn sort_rest(
     let mut high = [0u16; 256];
     let mut starts = [0u16; 64];
     let mut numbers = [0u16; 256];
-    let mut seen = [0u64; 1024];
-    let mut weak = [0u64; 1024];
-    let mut reach = [0u64; 1024];
-    let mut paths = [0u64; 1024];
-    let mut moved = [0u64; 1024];
     let mut placed = [0u64; 4];
-    let mut from = [0u16; 2048];
-    let mut to = [0u16; 2048];
-    let mut next_out = [0u16; 2048];
-    let mut next_in = [0u16; 2048];
     let mut heads_out = [0u16; 256];
     let mut heads_in = [0u16; 256];
     let mut open = [0u16; 256];
     let mut order = [0u16; 256];
-    let mut list = [0u16; 16384];
     let mut modules = [0u8; 64];
     let mut t = first;
     while 0 < t.left {
@@ -147,9 +159,12 @@ fn sort_rest(
             continue;
         }
         let n = giving::giving(members, t.used, givers, &mut modules);
+        let left = t.left;
         let e = sort_stmts(
             items,
             needs,
+            next_need,
+            need_heads[left],
             next,
             heads,
             &modules[..n],
@@ -159,21 +174,21 @@ fn sort_rest(
             &mut high,
             &mut starts,
             &mut numbers,
-            &mut seen,
-            &mut weak,
-            &mut reach,
-            &mut paths,
-            &mut moved,
+            seen,
+            weak,
+            reach,
+            paths,
+            moved,
             &mut placed,
-            &mut from,
-            &mut to,
-            &mut next_out,
-            &mut next_in,
+            from,
+            to,
+            next_out,
+            next_in,
             &mut heads_out,
             &mut heads_in,
             &mut open,
             &mut order,
-            &mut list,
+            list,
             out,
             t.kept,
             allowance,
@@ -185,6 +200,200 @@ fn sort_rest(
         t = after(t, members, kept, made);
     }
     Ending::Finished(t.kept, t.made)
+}
+
+// Chains the needs and takes the turns, with arrays for 128 items and 512 needs.
+fn sort_small(
+    items: &[u8],
+    needs: &[u8],
+    owners: &[u8],
+    next: &[u16],
+    heads: &[u16],
+    bytes: &[u8],
+    importers: u64,
+    givers: u64,
+    first: Turn,
+    out: &mut [u8],
+    allowance: u32,
+) -> Ending
+    requires { ⌜ ((p : Project) × (groups : List (List ℕ)) × (before : List ℕ)
+        × Owning p groups (now items) (now needs) (now owners) (now next) (now heads) (now bytes) importers givers allowance before (now out) first
+        × (length (p .items) ≤ 128) × (length (p .needs) ≤ 512)) ⌝ }
+    ensures { λ r. ⌜ ((p : Project) (groups : List (List ℕ)) (before : List ℕ)
+        → Owning p groups (now (items .entry)) (now (needs .entry)) (now (owners .entry)) (now (next .entry)) (now (heads .entry)) (now (bytes .entry))
+        importers givers allowance before (now (out .entry)) first → length (p .items) ≤ 128 → length (p .needs) ≤ 512
+        → Ordered (orderGroups p itemListLimit allowance [] groups [] 0) before (now (out .exit)) r) ⌝ }
+{
+    let mut keys = [0u16; 512];
+    let mut next_need = [0u16; 512];
+    let mut need_heads = [0u16; 65];
+    chain_needs(
+        items,
+        needs,
+        owners,
+        &mut keys,
+        &mut need_heads,
+        &mut next_need,
+    );
+    let mut seen = [0u64; 256];
+    let mut weak = [0u64; 256];
+    let mut reach = [0u64; 256];
+    let mut paths = [0u64; 256];
+    let mut moved = [0u64; 256];
+    let mut from = [0u16; 512];
+    let mut to = [0u16; 512];
+    let mut next_out = [0u16; 512];
+    let mut next_in = [0u16; 512];
+    let mut list = [0u16; 4352];
+    sort_turns(
+        items,
+        needs,
+        &next_need,
+        &need_heads,
+        next,
+        heads,
+        bytes,
+        importers,
+        givers,
+        first,
+        &mut seen,
+        &mut weak,
+        &mut reach,
+        &mut paths,
+        &mut moved,
+        &mut from,
+        &mut to,
+        &mut next_out,
+        &mut next_in,
+        &mut list,
+        out,
+        allowance,
+    )
+}
+
+// The same with arrays for all items and needs that there can be.
+fn sort_large(
+    items: &[u8],
+    needs: &[u8],
+    owners: &[u8],
+    next: &[u16],
+    heads: &[u16],
+    bytes: &[u8],
+    importers: u64,
+    givers: u64,
+    first: Turn,
+    out: &mut [u8],
+    allowance: u32,
+) -> Ending
+    requires { ⌜ ((p : Project) × (groups : List (List ℕ)) × (before : List ℕ)
+        × Owning p groups (now items) (now needs) (now owners) (now next) (now heads) (now bytes) importers givers allowance before (now out) first
+        × (length (p .items) ≤ itemLimit) × (length (p .needs) ≤ needLimit)) ⌝ }
+    ensures { λ r. ⌜ ((p : Project) (groups : List (List ℕ)) (before : List ℕ)
+        → Owning p groups (now (items .entry)) (now (needs .entry)) (now (owners .entry)) (now (next .entry)) (now (heads .entry)) (now (bytes .entry))
+        importers givers allowance before (now (out .entry)) first → length (p .items) ≤ itemLimit → length (p .needs) ≤ needLimit
+        → Ordered (orderGroups p itemListLimit allowance [] groups [] 0) before (now (out .exit)) r) ⌝ }
+{
+    let mut keys = [0u16; 2048];
+    let mut next_need = [0u16; 2048];
+    let mut need_heads = [0u16; 65];
+    chain_needs(
+        items,
+        needs,
+        owners,
+        &mut keys,
+        &mut need_heads,
+        &mut next_need,
+    );
+    let mut seen = [0u64; 1024];
+    let mut weak = [0u64; 1024];
+    let mut reach = [0u64; 1024];
+    let mut paths = [0u64; 1024];
+    let mut moved = [0u64; 1024];
+    let mut from = [0u16; 2048];
+    let mut to = [0u16; 2048];
+    let mut next_out = [0u16; 2048];
+    let mut next_in = [0u16; 2048];
+    let mut list = [0u16; 16384];
+    sort_turns(
+        items,
+        needs,
+        &next_need,
+        &need_heads,
+        next,
+        heads,
+        bytes,
+        importers,
+        givers,
+        first,
+        &mut seen,
+        &mut weak,
+        &mut reach,
+        &mut paths,
+        &mut moved,
+        &mut from,
+        &mut to,
+        &mut next_out,
+        &mut next_in,
+        &mut list,
+        out,
+        allowance,
+    )
+}
+
+// The turns of the groups from `first` on, some of them sorted. A project of usual size gets by with small arrays, which are quicker to make.
+fn sort_rest(
+    items: &[u8],
+    needs: &[u8],
+    next: &[u16],
+    heads: &[u16],
+    bytes: &[u8],
+    count: usize,
+    importers: u64,
+    givers: u64,
+    first: Turn,
+    out: &mut [u8],
+    allowance: u32,
+) -> Ending
+    requires { ⌜ ((p : Project) × (groups : List (List ℕ)) × (before : List ℕ)
+        × Resuming p groups (now items) (now needs) (now next) (now heads) (now bytes) count importers givers allowance before (now out) first) ⌝ }
+    ensures { λ r. ⌜ ((p : Project) (groups : List (List ℕ)) (before : List ℕ)
+        → Resuming p groups (now (items .entry)) (now (needs .entry)) (now (next .entry)) (now (heads .entry))
+        (now (bytes .entry)) count importers givers
+        allowance before (now (out .entry)) first
+        → Ordered (orderGroups p itemListLimit allowance [] groups [] 0) before (now (out .exit)) r) ⌝ }
+{
+    let mut owners = [0u8; 64];
+    note_owners(bytes, count, &mut owners);
+    if items.len() <= 256 {
+        if needs.len() <= 1536 {
+            return sort_small(
+                items,
+                needs,
+                &owners,
+                next,
+                heads,
+                bytes,
+                importers,
+                givers,
+                first,
+                out,
+                allowance,
+            );
+        }
+    }
+    sort_large(
+        items,
+        needs,
+        &owners,
+        next,
+        heads,
+        bytes,
+        importers,
+        givers,
+        first,
+        out,
+        allowance,
+    )
 }
 
 // Sorts the groups in turn and writes the rows of their kept items to `out`. Where it stops, what `out` holds is left free.
@@ -218,6 +427,7 @@ pub fn sort_groups(
         &next,
         &heads,
         groups,
+        count,
         importers,
         givers,
         first,

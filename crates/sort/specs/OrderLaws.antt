@@ -151,6 +151,7 @@ module _ {bytes : List ℕ} {l : Layout} {groups reply : List ℕ} {count visits
         bytes-are = f .bytes-are;
         bytes-most = rw (f .bytes-are) (le-trans (groups-fit project-accepted moduleListLimit allowance s visits (f .grouped)) (mul-le-mul most more));
         count-is = f .count-is ∙ sym (length-reverse (groupsOf s));
+        count-most = omega (arith, f .count-is, made .count);
         each-once = λ g m. made .members g (reverse-∈ (groupsOf s) m) .once;
         members-below = λ g m. made .members g (reverse-∈ (groupsOf s) m) .below;
         out-size = size;

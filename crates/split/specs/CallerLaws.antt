@@ -10,14 +10,12 @@ use borrow.Author.Tests.{ltb-true, ltb-false}
 use lib.ListN.{length, getD, take, List·getD-append}
 use Rattle.rules.specs.Lists.{consIf, keep, upFrom}
 use Rattle.rules.specs.Project.{Project, itemLimit, moduleLimit}
-use Rattle.rules.specs.Items.{isInjected, kindAt, injectedRows, numbering, Range, groupOf, kindOf, numbers, starts as startsOf}
-use Rattle.rules.specs.Calls.{itemListLimit}
+use Rattle.rules.specs.Items.{isInjected, kindAt, injectedRows, numbering, Range, groupOf, kindOf, numbers, starts as startsOf, firstList}
 use Rattle.laws.specs.Lists.{Tested, holds, fails, tested, upFrom-∈}
 use Rattle.laws.specs.Orders.{getD-∈, getD-behind}
 use Rattle.laws.specs.Counting.{below-length, keep-all}
 use Rattle.laws.specs.Accepted.{Accepted}
 use Rattle.laws.specs.Splits.{runs, size, Giving, giving-below, length-numbering, length-kinds, kindOf-row, uninjected-∈, injected-∈, wellFormed}
-use Rattle.laws.specs.FirstList.{firstList-limit}
 use Rattle.split.specs.declared.Split.{Split}
 use Rattle.split.specs.Splits.{ModuleChains, SplitRoom, Splits}
 use Rattle.split.specs.SplitLaws.{numbering-parts}
@@ -96,8 +94,8 @@ starts-numbers {p} {modules} g i h =
 
 -- What the split leaves is what the first list asks for. `part` is the starts of the modules.
 pub listable : {p : Project} {modules rows kinds low high starts : List ℕ} {s : Split} {part list : List ℕ} → Accepted p → Giving p modules
-    → Splits p modules rows kinds low high starts s → part ≡ take (length modules) starts → length list ≡ itemListLimit
-    → Listable (groupOf p modules) low high part s list
+    → Splits p modules rows kinds low high starts s → part ≡ take (length modules) starts
+    → length (firstList (groupOf p modules)) ≤ length list → Listable (groupOf p modules) low high part s list
 listable {p} {modules} {s = s} {part = part} a g d e room =
     let shown : part ≡ startsOf (groupOf p modules) = e ∙ d .starts-shown in
     record {
@@ -110,7 +108,7 @@ listable {p} {modules} {s = s} {part = part} a g d e room =
           ∙ sym (ap (λ (u : ℕ). upFrom u (length (numbering p modules) - u)) (d .uninjected-is))
           ∙ sym (ap (λ (n : ℕ). upFrom (s .uninjected) (n - s .uninjected)) (d .count-is));
       most = omega (arith, d .count-is, length-numbering p (g .once), a .items-most);
-      room = omega (arith, firstList-limit a g);
+      room = room;
     }
 
 -- The rows of an accepted project, chained, have the chains of modules that give items.

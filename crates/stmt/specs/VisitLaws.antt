@@ -99,6 +99,7 @@ module _ {g : Group} {to heads-out next-out from heads-in next-in paths weak kin
   unfolding placedOf
   awaited =
       record {
+        formed = h .laid .formed;
         x-below = front-below;
         chained = h .laid .dependants;
         kinds-shown = h .laid .kinds-shown;

@@ -21,13 +21,13 @@ use Rattle.lists.specs.Bits.{bitAt, Inserted}
 use Rattle.lists.specs.BitLaws.{cell-eqb, cell-below}
 use Rattle.laws.specs.Counting.{below-length, no-member}
 use Rattle.laws.specs.Orders.{and-true}
-use Rattle.laws.specs.ItemWalk.{dependenciesOf-∈}
+use Rattle.laws.specs.ItemWalk.{dependenciesOf-∈, dependantsOf-∈}
 use Rattle.lists.specs.Stacks.{stack}
 use Rattle.lists.specs.StackLaws.{stack-length, stack-push, placed-stack, Placing, placing-start, placing-rest, placing-one, placing-end}
 use Rattle.lists.specs.Pairs.{targets}
 use Rattle.lists.specs.ChainLaws.{left, targets-end, targets-step}
 use Rattle.split.specs.Shown.{RangeIs}
-use Rattle.stmt.specs.Walks.{Table, Chained, staying, Findable, Found, Listed, Pushed, pushed, no-room, Awaited, Ordered, Precedable, First, none, first, Cell, Noted, noted, had-moved, Skippable, Skipped, Testable, stays}
+use Rattle.stmt.specs.Walks.{Table, Chained, staying, Findable, Found, Listed, Fits, Pushed, pushed, no-room, Awaited, Ordered, Precedable, First, none, first, Cell, Noted, noted, had-moved, Skippable, Skipped, Testable, stays}
 
 -- Kinds that may drop.
 pub drops-weak : (kind weight : ℕ) → kind ≡ 3 → mayDrop kind weight ≡ eqb weight 1
@@ -394,20 +394,47 @@ module _ {top : ℕ} {old : List ℕ} (n : ℕ) («open» : List ℕ) (fits : n 
   pub put-none : n ≤ top → top ≤ length old → Placing top (take n «open») old (top - 0) (drop 0 (take n «open»)) old
   put-none k h = rw sub-zero (placing-start (record { room = omega (arith, length-take n «open»); within = h }))
 
-  pub put-all : {a : List ℕ} {end : ℕ} (i : ℕ) → n ≤ i → top ≡ end + n → top ≤ itemListLimit → Listed old end (stack old end)
+  pub put-all : {a : List ℕ} (end i : ℕ) → n ≤ i → top ≡ end + n → top ≤ itemListLimit → top ≤ length old
       → Placing top (take n «open») old (top - i) (drop i (take n «open»)) a → Listed a top (take n «open» ++ stack old end)
-  put-all {a} {end} i all e most h p =
+  put-all {a} end i all e most room p =
       let q = placing-end (placing-rest (drop-of-length-le (take n «open») {i = i} (omega (arith, length-take n «open»))) p) in
       let count : length (take n «open») ≡ n = omega (arith, length-take n «open») in
       let left : top - length (take n «open») ≡ end = omega arith in
       record {
         shown =
             ap (λ (l : List ℕ). stack l top) (q .whole)
-            ∙ placed-stack top (take n «open») old (omega arith) (omega (arith, h .size))
+            ∙ placed-stack top (take n «open») old (omega arith) room
             ∙ ap (λ (m : ℕ). take n «open» ++ stack old m) left;
         within = most;
-        size = p .size ∙ h .size;
+        held = rw (p .size) room;
       }
+
+-- No more dependencies are found than there are items.
+pub found-most : {g : Group} {items : List ℕ} {pairs : List (ℕ × ℕ)} {width x : ℕ} {moved «open» : List ℕ} {count : ℕ} → WellFormed g
+    → Found g items pairs width x moved «open» count → count ≤ size g
+unfolding dependenciesIn
+found-most {g} {items} {pairs} {x = x} {«open» = «open»} {count} w f =
+    let whole = findOpen g items x (dependenciesOf (g .needs) x) pairs in
+    omega (
+      arith,
+      ap (λ (o : Opened). length (dependenciesIn o)) (f .found),
+      length-take count «open»,
+      f .within,
+      staying-length g x whole,
+      findOpen-length g items x (dependenciesOf (g .needs) x) pairs,
+      dependencies-most w x,
+    )
+
+-- No more dependants wait than there are items.
+waiting-most : {g : Group} → WellFormed g → (items : List ℕ) (x : ℕ) → length (waiting g items x) ≤ size g
+unfolding waiting dependantsOf
+waiting-most {g} w items x =
+    omega (
+      arith,
+      length-parts (λ d. isInjected (kindOf g d) && not (elem d items)) (dependantsOf (g .needs) x),
+      below-length (once-different (map (λ (n : Need). n .dependant) (keep (λ (n : Need). eqb (n .dependency) x) (g .needs))))
+          (λ d m. w .ends-below d x (dependantsOf-∈ (g .needs) x m) .0),
+    )
 
 -- Entries pushed one by one.
 oneByOne-length : (l list : List ℕ) → length (oneByOne l list) ≡ length l + length list
@@ -415,14 +442,15 @@ unfolding oneByOne
 oneByOne-length [] list = omega arith
 oneByOne-length (d ∷ l) list = omega (arith, oneByOne-length l (d ∷ list))
 
-listed-push : {list : List ℕ} {end : ℕ} {entries : List ℕ} (x : ℕ) → end < itemListLimit → Listed list end entries
+pub waiting-entries : {g : Group} → WellFormed g → (items : List ℕ) (x : ℕ) (list : List ℕ) (end : ℕ)
+    → length (oneByOne (waiting g items x) (stack list end)) ≤ end + size g
+waiting-entries {g} w items x list end =
+    omega (arith, oneByOne-length (waiting g items x) (stack list end), stack-length list end, waiting-most w items x)
+
+listed-push : {list : List ℕ} {end : ℕ} {entries : List ℕ} (x : ℕ) → end < itemListLimit → end < length list → Listed list end entries
     → Listed (set list end x) (end + 1) (x ∷ entries)
-listed-push {list} {end} x h l =
-    record {
-      shown = stack-push list end x (omega (arith, l .size)) ∙ ap (λ (k : List ℕ). x ∷ k) (l .shown);
-      within = omega arith;
-      size = simp length-set (l .size);
-    }
+listed-push {list} {end} x h room l =
+    record { shown = stack-push list end x room ∙ ap (λ (k : List ℕ). x ∷ k) (l .shown); within = omega arith; held = simp length-set (omega arith) }
 
 -- In the midst of pushing: with the waiting dependants along the rest of the chain pushed the list is as it is to be.
 module _ (g : Group) (items : List ℕ) {from heads next : List ℕ} (l : Chained (dependantsOf (g .needs)) (size g) from heads next)
@@ -458,14 +486,28 @@ module _ (g : Group) (items : List ℕ) {from heads next : List ℕ} (l : Chaine
     pushing-passed t = record { most = chain-next l e more (p .most); listed = p .listed; same = same-turn t }
 
     module _ (t : (isInjected (kindOf g (getD from (e - 1) 0)) && not (elem (getD from (e - 1) 0) items)) ≡ true) where
-      pub pushing-one : at < itemListLimit → Pushing (set list at (getD from (e - 1) 0)) (at + 1) (getD next (e - 1) 0)
+      -- no more dependants wait than there are items
+      pub pushing-room : WellFormed g → at < itemListLimit → Fits (end + size g) list → at < length list
+      unfolding consIf
+      pushing-room w h fits =
+          let rest = keep (λ d. isInjected (kindOf g d) && not (elem d items)) (from-entry l (getD next (e - 1) 0)) in
+          fits (suc at) h
+          (omega (
+            arith,
+            ap length (same-turn t),
+            oneByOne-length (getD from (e - 1) 0 ∷ rest) (stack list at),
+            stack-length list at,
+            waiting-entries w items x list₀ end,
+          ))
+
+      pub pushing-one : at < itemListLimit → at < length list → Pushing (set list at (getD from (e - 1) 0)) (at + 1) (getD next (e - 1) 0)
       unfolding consIf oneByOne
-      pushing-one h =
+      pushing-one h room =
           let shown : stack (set list at (getD from (e - 1) 0)) (at + 1) ≡ getD from (e - 1) 0 ∷ stack list at =
-          stack-push list at (getD from (e - 1) 0) (omega (arith, p .listed .size)) in
+          stack-push list at (getD from (e - 1) 0) room in
           record {
             most = chain-next l e more (p .most);
-            listed = record { shown = refl; within = omega arith; size = simp length-set (p .listed .size) };
+            listed = record { shown = refl; within = omega arith; held = simp length-set (omega arith) };
             same = rw shown (same-turn t);
           }
 
@@ -482,7 +524,7 @@ module _ (g : Group) (items : List ℕ) {from heads next : List ℕ} (l : Chaine
       (record {
         shown = ap (λ (k : List ℕ). oneByOne (keep (λ d. isInjected (kindOf g d) && not (elem d items)) k) (stack list at)) (sym (from-end l z)) ∙ p .same;
         within = p .listed .within;
-        size = p .listed .size;
+        held = p .listed .held;
       })
 
 -- whether a dependant is waiting, by its kind and the row of items placed
@@ -567,14 +609,14 @@ module _ {list : List ℕ} {end x : ℕ} {rest : List ℕ} (l : Listed list end 
   front-rest = apart end (l .shown) .1
 
   pub listed-off : Listed list (end - 1) rest
-  listed-off = record { shown = front-rest; within = omega arith; size = l .size }
+  listed-off = record { shown = front-rest; within = omega arith; held = omega (arith, l .held) }
 
 -- The list as the array shows it, and without its front.
 pub listed-self : {list : List ℕ} {end : ℕ} {entries : List ℕ} → Listed list end entries → Listed list end (stack list end)
-listed-self l = record { shown = refl; within = l .within; size = l .size }
+listed-self l = record { shown = refl; within = l .within; held = l .held }
 
 pub listed-less : {list : List ℕ} {end : ℕ} {entries : List ℕ} → Listed list end entries → Listed list (end - 1) (stack list (end - 1))
-listed-less l = record { shown = refl; within = omega arith; size = l .size }
+listed-less l = record { shown = refl; within = omega arith; held = omega (arith, l .held) }
 
 -- What pushing comes to, with k more entries.
 pub pushed-over : {entries list : List ℕ} {end : ℕ} (k : ℕ) → Pushed entries list end → itemListLimit < end + k → itemListLimit < length entries + k
@@ -585,12 +627,17 @@ pub pushed-within : {entries list : List ℕ} {end : ℕ} → Pushed entries lis
 pushed-within (pushed l) h = l
 pushed-within (no-room f) h = absurd (omega arith)
 
-pub pushed-two : {entries list : List ℕ} {end : ℕ} (x p : ℕ) → Pushed entries list end → end + 2 ≤ itemListLimit
+pub pushed-two : {entries list : List ℕ} {end : ℕ} (x p : ℕ) → Pushed entries list end → end + 2 ≤ itemListLimit → end + 2 ≤ length list
     → Listed (set (set list end x) (end + 1) p) (end + 2) (p ∷ x ∷ entries)
-pushed-two {entries} {list} {end} x p k h =
+pushed-two {entries} {list} {end} x p k h room =
     let two : end + 1 + 1 ≡ end + 2 = omega arith in
     subst (λ (m : ℕ). Listed (set (set list end x) (end + 1) p) m (p ∷ x ∷ entries)) two
-    (listed-push p (omega arith) (listed-push x (omega arith) (pushed-within k (omega arith))))
+    (listed-push p (omega arith) (simp length-set (omega arith)) (listed-push x (omega arith) (omega arith) (pushed-within k (omega arith))))
+
+pub pushed-room : {entries list : List ℕ} {end : ℕ} (k most : ℕ) → Pushed entries list end → end + k ≤ itemListLimit → length entries + k ≤ most
+    → Fits most list → end + k ≤ length list
+pushed-room {list = list} {end} k most (pushed l) h g fits = fits (end + k) h (omega (arith, ap length (l .shown), stack-length list end))
+pushed-room k most (no-room f) h g fits = absurd (omega arith)
 
 pub pushed-most : {entries list : List ℕ} {end : ℕ} → Pushed entries list end → end ≤ itemListLimit + 1
 pushed-most (pushed l) = omega (arith, l .within)

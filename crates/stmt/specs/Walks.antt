@@ -21,7 +21,7 @@ use Rattle.stmt.specs.declared.walk.ItemWalk.{ItemWalk}
 use Rattle.stmt.specs.declared.walk.Outcome.{Outcome}
 use Rattle.stmt.specs.declared.walk.Outcome.the-variants.{WentOn, Placed, ListFull}
 use Rattle.stmt.specs.declared.walk.Ending.{Ending}
-use Rattle.stmt.specs.declared.walk.Ending.the-variants.{Finished, Spent, Full}
+use Rattle.stmt.specs.declared.walk.Ending.the-variants.{Finished, Spent, Full, Crowded}
 
 -- What arrays show.
 -- A row of bits shows a test on the numbers below n.
@@ -63,11 +63,20 @@ pub record Laid (g : Group) (to heads-out next-out from heads-in next-in paths w
   pub kinds-shown : Kinds g kinds
   pub ranges-shown : Ranges g low high
 
--- A list of entries, its front at the end index, on an array of the limit's size.
+-- A list of entries, its front at the end index, held by an array.
 pub record Listed (list : List ℕ) (end : ℕ) (entries : List ℕ) : Type 0 where
   pub shown : stack list end ≡ entries
   pub within : end ≤ itemListLimit
-  pub size : length list ≡ itemListLimit
+  pub held : end ≤ length list
+
+-- An array holds as many entries as a list may have, or `most` of them.
+abbrev pub Fits : ℕ → List ℕ → Type 0
+Fits most list = (k : ℕ) → k ≤ itemListLimit → k ≤ most → k ≤ length list
+
+-- Whatever one visit may leave of n items fits the array: from `end` entries it takes one off and puts at most n dependants, x and p there, or at most n
+-- dependencies.
+abbrev pub Room : ℕ → List ℕ → ℕ → Type 0
+Room n list end = Fits (end + n + 1) list
 
 -- The items placed, latest first: a row of bits, and the items in their order.
 pub record Ordered (n : ℕ) (placed order : List ℕ) (count : ℕ) (items : List ℕ) : Type 0 where
@@ -84,7 +93,7 @@ pub record Shows (g : Group) (width : ℕ) (placed moved order list : List ℕ) 
   pub items : Ordered (size g) placed order (w .placed) (placedOf s)
   pub pairs : Table (size g) width moved (hasMoved (movedOf s))
 
--- What a visit relies on: the group laid out, room for its open dependencies, and a state that its walk can be in.
+-- What visits rely on: the group laid out, room for its open dependencies, and a state that its walk can be in.
 pub record Walking (g : Group) (to heads-out next-out from heads-in next-in paths weak kinds low high : List ℕ) (width : ℕ)
     (placed moved «open» order list : List ℕ) (w : ItemWalk) (s : ItemState) : Type 0 where
   pub laid : Laid g to heads-out next-out from heads-in next-in paths weak kinds low high width
@@ -112,6 +121,17 @@ pub record Running (g : Group) (to heads-out next-out from heads-in next-in path
   pub state : ItemState
   pub walking : Walking g to heads-out next-out from heads-in next-in paths weak kinds low high width placed moved «open» order list w state
   pub same : run (itemWalk g) itemListLimit (allowance - already) already first ≡ run (itemWalk g) itemListLimit (allowance - made) made state
+
+-- What a run comes to: its ending, or where the array is shorter than the limit, the state before a visit for which it may be too short. From there the
+-- run goes on with a longer array.
+pub data Ran (g : Group) (to heads-out next-out from heads-in next-in paths weak kinds low high : List ℕ) (width n allowance already : ℕ)
+    (first : ItemState) (placed moved «open» order list : List ℕ) : Ending → Type 0 where
+  has-ended : {e : Ending} → Ended (run (itemWalk g) itemListLimit (allowance - already) already first) n order e
+      → Ran g to heads-out next-out from heads-in next-in paths weak kinds low high width n allowance already first placed moved «open» order list e
+  was-crowded : {w : ItemWalk} {made : ℕ} → length list < itemListLimit → made ≤ allowance
+      → Running g to heads-out next-out from heads-in next-in paths weak kinds low high width allowance already first placed moved «open» order list w made
+      → Ran g to heads-out next-out from heads-in next-in paths weak kinds low high width n allowance already first placed moved «open» order list
+      (Crowded w made)
 
 -- The parts of a visit.
 -- Bit b of row a is within the words, and its place does not wrap.
@@ -181,6 +201,7 @@ pub data Relisted (entries : List ℕ) (count : ℕ) (list : List ℕ) : Outcome
 
 -- What finding the dependants of x that are waiting relies on.
 pub record Awaited (g : Group) (items from heads next kinds placed : List ℕ) (x : ℕ) : Type 0 where
+  pub formed : WellFormed g
   pub x-below : x < size g
   pub chained : Chained (dependantsOf (g .needs)) (size g) from heads next
   pub kinds-shown : Kinds g kinds

@@ -5,16 +5,16 @@ ghost use Prim.Native.Nat.{ℕ, _+_, _*_, _-_, _≤_, _<_};
 ghost use mathlib.Core.Path.{_≡_};
 ghost use mathlib.Core.Bool.{false, not, _&&_};
 ghost use mathlib.Core.List.{List, _∷_, _++_};
-ghost use lib.Dec.{eqb};
+ghost use lib.Dec.{eqb, ltb};
 ghost use lib.ListN.{length, getD, take, set};
 ghost use Rattle.rules.specs.Lists.{elem};
-ghost use Rattle.rules.specs.Walk.{run as runs};
-ghost use Rattle.rules.specs.Items.{isInjected, mayDrop, Group, ItemState, itemState, waiting, oneByOne, preceding as precedingOf, afterPreceding, visitItem, placedOf, itemWalk};
+ghost use Rattle.rules.specs.Project.{itemLimit};
+ghost use Rattle.rules.specs.Items.{isInjected, mayDrop, Group, ItemState, itemState, waiting, oneByOne, preceding as precedingOf, afterPreceding, visitItem, placedOf};
 ghost use Rattle.rules.specs.Calls.{itemListLimit};
 ghost use Rattle.lists.specs.Bits.{bitAt, Inserted};
 ghost use Rattle.lists.specs.Stacks.{stack};
 ghost use Rattle.laws.specs.Splits.{size};
-ghost use Rattle.stmt.specs.Walks.{Cell, Noted, Skippable, Skipped, Testable, stays as staysOpen, Findable, Found, Listed, Relisted, Awaited, Pushed, Precedable, First, Front, Put, Settling, Walking, Came, Ended};
+ghost use Rattle.stmt.specs.Walks.{Cell, Noted, Skippable, Skipped, Testable, stays as staysOpen, Findable, Found, Listed, Relisted, Awaited, Pushed, Precedable, First, Fits, Room, Front, Put, Settling, Walking, Came, Ran};
 
 // The numbers of the walk's state: the end of the list and how many items are placed.
 pub struct ItemWalk {
@@ -29,11 +29,12 @@ pub enum Outcome {
     ListFull,
 }
 
-// How a run stopped, with the visits made.
+// How a run stopped, with the visits made; or that the next visit may need a longer array, with the numbers of the walk.
 pub enum Ending {
     Finished(u32),
     Spent(u32),
     Full(u32),
+    Crowded(ItemWalk, u32),
 }
 
 impl ItemWalk {
@@ -175,7 +176,7 @@ fn find_open(
 
 // Puts n open dependencies before the front item, which stays on the list: the first foremost.
 fn put_open(list: &mut [u16], open: &[u16], n: usize, w: ItemWalk) -> Outcome
-    requires { ⌜ Listed (now list) (w .end) (stack (now list) (w .end)) × (n ≤ length (now «open»)) ⌝ }
+    requires { ⌜ Listed (now list) (w .end) (stack (now list) (w .end)) × (n ≤ length (now «open»)) × Fits (w .end + n) (now list) ⌝ }
     ensures { λ r. ⌜ Relisted (take n (now («open» .entry)) ++ stack (now (list .entry)) (w .end)) (w .placed) (now (list .exit)) r ⌝ }
 {
     let end = w.end + n;
@@ -213,7 +214,8 @@ fn push_waiting(
     end: usize,
     x: u16,
 ) -> usize
-    requires { ⌜ ((g : Group) × (items : List ℕ) × Awaited g items (now from) (now heads) (now next) (now kinds) (now placed) x) ⌝ }
+    requires { ⌜ ((g : Group) × (items : List ℕ) × Awaited g items (now from) (now heads) (now next) (now kinds) (now placed) x
+        × Fits (end + size g) (now list)) ⌝ }
     requires { ⌜ Listed (now list) end (stack (now list) end) ⌝ }
     ensures { λ r. ⌜ ((g : Group) (items : List ℕ)
         → Awaited g items (now (from .entry)) (now (heads .entry)) (now (next .entry)) (now (kinds .entry)) (now (placed .entry)) x
@@ -273,7 +275,7 @@ fn place_injected(
     x: ItemId,
 ) -> Outcome
     requires { ⌜ ((g : Group) × (rest : List ℕ) × (items : List ℕ) × Awaited g items (now from) (now heads) (now next) (now kinds) (now placed) (x .0)
-        × Front (size g) (now placed) (now order) (now list) w (x .0) rest items) ⌝ }
+        × Front (size g) (now placed) (now order) (now list) w (x .0) rest items × Room (size g) (now list) (w .end)) ⌝ }
     ensures { λ r. ⌜ ((g : Group) (rest items : List ℕ)
         → Awaited g items (now (from .entry)) (now (heads .entry)) (now (next .entry)) (now (kinds .entry)) (now (placed .entry)) (x .0)
         → Front (size g) (now (placed .entry)) (now (order .entry)) (now (list .entry)) w (x .0) rest items
@@ -302,7 +304,8 @@ fn put_preceding(
     x: u16,
     p: u16,
 ) -> Outcome
-    requires { ⌜ ((g : Group) × (items : List ℕ) × Awaited g items (now from) (now heads) (now next) (now kinds) (now placed) x) ⌝ }
+    requires { ⌜ ((g : Group) × (items : List ℕ) × Awaited g items (now from) (now heads) (now next) (now kinds) (now placed) x
+        × Room (size g) (now list) (w .end)) ⌝ }
     requires { ⌜ (0 < w .end) × Listed (now list) (w .end) (stack (now list) (w .end)) ⌝ }
     ensures { λ r. ⌜ ((g : Group) (items : List ℕ)
         → Awaited g items (now (from .entry)) (now (heads .entry)) (now (next .entry)) (now (kinds .entry)) (now (placed .entry)) x
@@ -336,7 +339,8 @@ fn visit_uninjected(
     x: ItemId,
 ) -> Outcome
     requires { ⌜ ((g : Group) × (rest : List ℕ) × (items : List ℕ) × (pairs : List (ℕ × ℕ))
-        × Settling g (now from) (now heads) (now next) (now kinds) low width (now placed) (now moved) (now order) (now list) w (x .0) rest items pairs) ⌝ }
+        × Settling g (now from) (now heads) (now next) (now kinds) low width (now placed) (now moved) (now order) (now list) w (x .0) rest items pairs
+        × Room (size g) (now list) (w .end)) ⌝ }
     ensures { λ r. ⌜ ((g : Group) (rest items : List ℕ) (pairs : List (ℕ × ℕ))
         → Settling g (now (from .entry)) (now (heads .entry)) (now (next .entry)) (now (kinds .entry)) low width (now (placed .entry))
         (now (moved .entry)) (now (order .entry)) (now (list .entry)) w (x .0) rest items pairs
@@ -379,7 +383,8 @@ fn visit_unplaced(
 ) -> Outcome
     requires { ⌜ ((g : Group) × (rest : List ℕ) × (items : List ℕ) × (pairs : List (ℕ × ℕ)) × (elem (x .0) items ≡ false)
         × Walking g (now to) (now «heads_out») (now «next_out») (now from) (now «heads_in») (now «next_in») (now paths) (now weak) (now kinds) (now low)
-        (now high) width (now placed) (now moved) (now «open») (now order) (now list) w (itemState (x .0 ∷ rest) items pairs)) ⌝ }
+        (now high) width (now placed) (now moved) (now «open») (now order) (now list) w (itemState (x .0 ∷ rest) items pairs)
+        × Room (size g) (now list) (w .end)) ⌝ }
     ensures { λ r. ⌜ ((g : Group) (rest items : List ℕ) (pairs : List (ℕ × ℕ)) → elem (x .0) items ≡ false
         → Walking g (now (to .entry)) (now («heads_out» .entry)) (now («next_out» .entry)) (now (from .entry)) (now («heads_in» .entry))
         (now («next_in» .entry)) (now (paths .entry)) (now (weak .entry)) (now (kinds .entry)) (now (low .entry)) (now (high .entry)) width
@@ -449,7 +454,7 @@ pub fn visit(
     requires { ⌜ 0 < w .end ⌝ }
     requires { ⌜ ((g : Group) × (s : ItemState)
         × Walking g (now to) (now «heads_out») (now «next_out») (now from) (now «heads_in») (now «next_in») (now paths) (now weak) (now kinds) (now low)
-        (now high) width (now placed) (now moved) (now «open») (now order) (now list) w s) ⌝ }
+        (now high) width (now placed) (now moved) (now «open») (now order) (now list) w s × Room (size g) (now list) (w .end)) ⌝ }
     ensures { λ r. ⌜ ((g : Group) (s : ItemState)
         → Walking g (now (to .entry)) (now («heads_out» .entry)) (now («next_out» .entry)) (now (from .entry)) (now («heads_in» .entry))
         (now («next_in» .entry)) (now (paths .entry)) (now (weak .entry)) (now (kinds .entry)) (now (low .entry)) (now (high .entry)) width
@@ -487,7 +492,16 @@ pub fn visit(
     )
 }
 
-// Visits until all n items are placed, the allowance is spent or the list is full; `already` visits have been made.
+// Whether one more visit may leave more entries than an array of `room` holds, though no more than the limit.
+fn is_crowded(room: usize, end: usize, n: usize) -> bool
+    requires { ⌜ (end ≤ itemListLimit) × (n ≤ itemLimit) ⌝ }
+    ensures { λ r. ⌜ r ≡ (ltb room itemListLimit && ltb room (end + n + 1)) ⌝ }
+{
+    room < ItemWalk::LIST && room < end + n + 1
+}
+
+// Visits until all n items are placed, the allowance is spent, the list is full or the array may be too short for the next visit; `already` visits have
+// been made.
 pub fn run(
     to: &[u16],
     heads_out: &[u16],
@@ -519,7 +533,9 @@ pub fn run(
         → Walking g (now (to .entry)) (now («heads_out» .entry)) (now («next_out» .entry)) (now (from .entry)) (now («heads_in» .entry))
         (now («next_in» .entry)) (now (paths .entry)) (now (weak .entry)) (now (kinds .entry)) (now (low .entry)) (now (high .entry)) width
         (now (placed .entry)) (now (moved .entry)) (now («open» .entry)) (now (order .entry)) (now (list .entry)) start s
-        → Ended (runs (itemWalk g) itemListLimit (allowance - already) already s) n (now (order .exit)) r) ⌝ }
+        → Ran g (now (to .entry)) (now («heads_out» .entry)) (now («next_out» .entry)) (now (from .entry)) (now («heads_in» .entry))
+        (now («next_in» .entry)) (now (paths .entry)) (now (weak .entry)) (now (kinds .entry)) (now (low .entry)) (now (high .entry)) width n allowance
+        already s (now (placed .exit)) (now (moved .exit)) (now («open» .exit)) (now (order .exit)) (now (list .exit)) r) ⌝ }
 {
     let mut w = start;
     let mut made = already;
@@ -529,6 +545,9 @@ pub fn run(
         }
         if made == allowance {
             return Ending::Spent(made);
+        }
+        if is_crowded(list.len(), w.end, n) {
+            return Ending::Crowded(w, made);
         }
         made += 1;
         let o = visit(

@@ -8,7 +8,7 @@ use Rattle.layout.proofs.lay_needs.Tie as tie
 
 -- the places before
 abbrev start-of : tie.After-clear → tie.Start
-start-of c = c .before .before .before .before .before .before .before .before .before .before .before .before .before .before .before .before .before .before
+start-of c = c .before .before .before .before .before .before .before .before .before .before .before .before .before .before .before .before .before .before .before
 
 abbrev cleared-of : tie.After-add-needs → tie.After-clear
 cleared-of c = c .before .before .before .before .before .before .before .before .before .before .before .before .before .before .before
@@ -23,26 +23,28 @@ add-needs-requires : tie.Need-add-needs-requires
 add-needs-requires c κs =
     let cleared = c .before .before .before .before .before .before .before .before .before .before .before .before .before .before in
     let start = start-of cleared in
-    (start .pre .0, needs-room (start .pre .1) (cleared .clear .ensures))
+    (start .pre .0, (start .pre .1 .0, start .pre .1 .1, needs-room (start .pre .1 .2) (cleared .clear .ensures)))
 
 links-requires : tie.Need-links-requires
 links-requires c κs =
     let added = c .before .before .before .before .before .before .before .before .before .before .before .before .before .before .before .before .before .before in
     let start = start-of (cleared-of added) in
-    linkable (start .pre .1) (take (start .args .n) (start .args .rows .now)) (added .add-needs .ensures) (added .add-needs .kept .1 .1 .1 .1 .1 .1 .1 .1 .1 .0)
-    (added .add-needs .kept .1 .1 .1 .1 .1 .1 .1 .1 .1 .1 .0)
+    let own = start .pre .1 in
+    let shown = added .add-needs .ensures (own .0) (own .1) (needs-room (own .2) (cleared-of added .clear .ensures)) in
+    linkable (own .2) (take (start .args .n) (start .args .rows .now)) shown (added .add-needs .kept .1 .1 .1 .1 .1 .1 .1 .1 .1 .1 .1 .0)
+    (added .add-needs .kept .1 .1 .1 .1 .1 .1 .1 .1 .1 .1 .1 .1 .0)
 
 same-length : tie.Need-same-length
-same-length c = added-of c .add-needs .kept .1 .1 .1 .1 .1 .0 ∙ cleared-of (added-of c) .clear .kept .0
+same-length c = added-of c .add-needs .kept .1 .1 .1 .1 .1 .1 .1 .0 ∙ cleared-of (added-of c) .clear .kept .0
 
 same-length-2 : tie.Need-same-length-2
-same-length-2 c = added-of c .add-needs .kept .1 .1 .1 .1 .1 .1 .0 ∙ cleared-of (added-of c) .clear .kept .1 .0
+same-length-2 c = added-of c .add-needs .kept .1 .1 .1 .1 .1 .1 .1 .1 .0 ∙ cleared-of (added-of c) .clear .kept .1 .0
 
 same-length-3 : tie.Need-same-length-3
-same-length-3 c = added-of c .add-needs .kept .1 .1 .1 .1 .1 .1 .1 .0 ∙ cleared-of (added-of c) .clear .kept .1 .1 .0
+same-length-3 c = added-of c .add-needs .kept .1 .1 .1 .1 .1 .1 .1 .1 .1 .0 ∙ cleared-of (added-of c) .clear .kept .1 .1 .0
 
 same-length-4 : tie.Need-same-length-4
-same-length-4 c = added-of c .add-needs .kept .1 .1 .1 .1 .1 .1 .1 .1 .0 ∙ cleared-of (added-of c) .clear .kept .1 .1 .1 .0
+same-length-4 c = added-of c .add-needs .kept .1 .1 .1 .1 .1 .1 .1 .1 .1 .1 .0 ∙ cleared-of (added-of c) .clear .kept .1 .1 .1 .0
 
 same-length-5 : tie.Need-same-length-5
 same-length-5 c = search needs
@@ -67,7 +69,9 @@ returns c =
     let linked = c .before .before .before .before .before .before .before .before in
     let added = linked .before .before .before .before .before .before .before .before .before .before .before .before .before .before .before .before .before .before .before in
     let start = start-of (cleared-of added) in
-    laid (start .pre .1) (take (start .args .n) (start .args .rows .now)) (added .add-needs .ensures) (linked .links .kept .1 .1 .1 .0)
+    λ own a r.
+    laid r (take (start .args .n) (start .args .rows .now))
+    (added .add-needs .ensures own a (needs-room r (cleared-of added .clear .ensures))) (linked .links .kept .1 .1 .1 .0)
     (linked .links .kept .1 .1 .1 .1 .1 .0) (linked .links .ensures)
 
 pub lay-needs-spec : {M : Type 1} → statement M

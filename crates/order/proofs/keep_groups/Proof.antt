@@ -7,7 +7,8 @@ use mathlib.Core.Path.{_≡_, refl, sym, ap, _∙_}
 use mathlib.Core.List.{List}
 use lib.ListN.{length}
 use Rattle.rules.specs.Project.{Project, itemLimit}
-use Rattle.order.specs.Orders.{Ready, membersAt, Took, Turning}
+use Rattle.order.specs.Orders.{Ready, Took, Turning}
+use Rattle.owners.specs.GroupBytes.{membersAt}
 use Rattle.giving.specs.StoreLaws.{stored-size}
 use Rattle.giving.specs.SetLaws.{not-false}
 use Rattle.order.specs.LoopLaws.{turn-start, turn-below, turn-within, turn-formed, turn-taking, turn-kept}

@@ -10,45 +10,47 @@ use Rattle.group.proofs.walking.walk_group.Tie as tie
 
 -- the places before
 abbrev start-of : tie.After-lay-needs → tie.Start
-start-of c = c .before .before .before .before .before .before .before .before .before .before .before .before .before .before .before .before .before .before .before .before .before .before .before .before .before .before .before .before .before .before .before .before .before .before
+start-of c = c .before .before .before .before .before .before .before .before .before .before .before .before .before .before .before .before .before .before .before .before .before .before .before .before .before .before .before .before .before .before .before .before .before .before .before
 
 abbrev layout-of : tie.After-walk-items → tie.After-lay-needs
 layout-of c = c .before .before .before .before .before .before .before .before .before .before .before .before .before .before .before .before .before .before .before .before .before .before .before .before .before .before .before .before .before .before .before .before .before .before .before
 
 add-words : tie.Need-add-words
 add-words c =
-    let start = c .before .before .before .before .before .before .before .before .before .before .before .before .before .before .before .before .before .before .before .before .before .before .before in
-    omega (arith, items-most (start .pre .1 .0 .1))
+    let start = c .before .before .before .before .before .before .before .before .before .before .before .before .before .before .before .before .before .before .before .before .before .before .before .before in
+    omega (arith, items-most (start .pre .1 .1))
 
 lay-needs-requires : tie.Need-lay-needs-requires
 lay-needs-requires c κs =
-    let start = c .before .before .before .before .before .before .before .before .before .before .before .before .before .before .before .before .before .before .before .before .before .before .before .before .before .before .before .before .before .before .before .before .before in
-    let able = start .pre .1 .0 .1 in
-    (able .numbered .noted, lay-room able (start .pre .1 .1))
+    let start = c .before .before .before .before .before .before .before .before .before .before .before .before .before .before .before .before .before .before .before .before .before .before .before .before .before .before .before .before .before .before .before .before .before .before in
+    let able = start .pre .1 .1 in
+    (able .numbered .noted, (able .needs-own .own, able .needs-own .along, lay-room able (start .pre .1 .2)))
 
 slice-aggregate-walk-items : tie.Need-slice-aggregate-walk-items
 slice-aggregate-walk-items c =
     let start = start-of (c .before .before .before .before .before .before .before .before .before .before .before .before .before .before .before .before .before .before .before .before .before .before .before .before .before .before .before .before .before) in
-    sym (length-take-le (length (start .args .modules .now)) (start .args .starts .now) (start .pre .1 .0 .1 .numbered .starts-room))
+    sym (length-take-le (length (start .args .modules .now)) (start .args .starts .now) (start .pre .1 .1 .numbered .starts-room))
 
 walk-items-requires : tie.Need-walk-items-requires
 walk-items-requires c κs =
     let laid = c .before .before .before .before .before .before .before .before .before .before .before .before .before .before .before .before .before .before .before .before .before .before .before .before .before .before .before .before .before .before .before .before .before .before in
     let start = start-of laid in
-    let able = start .pre .1 .0 .1 in
-    (start .pre .0, (groupOf (start .pre .1 .0 .0) (start .args .modules .now), walkable able (start .pre .1 .1) (laid .lay-needs .ensures) refl))
+    let able = start .pre .1 .1 in
+    let space = start .pre .1 .2 in
+    let shown = laid .lay-needs .ensures (able .needs-own .own) (able .needs-own .along) (lay-room able space) in
+    (start .pre .0, (groupOf (start .pre .1 .0) (start .args .modules .now), walkable able space shown refl))
 
 same-length : tie.Need-same-length
-same-length c = (layout-of (c .before .before .before .before .before .before .before .before .before .before)) .lay-needs .kept .1 .1 .1 .1 .1 .0
+same-length c = (layout-of (c .before .before .before .before .before .before .before .before .before .before)) .lay-needs .kept .1 .1 .1 .1 .1 .1 .1 .0
 
 same-length-2 : tie.Need-same-length-2
-same-length-2 c = (layout-of (c .before .before .before .before .before .before .before .before .before .before)) .lay-needs .kept .1 .1 .1 .1 .1 .1 .0
+same-length-2 c = (layout-of (c .before .before .before .before .before .before .before .before .before .before)) .lay-needs .kept .1 .1 .1 .1 .1 .1 .1 .1 .0
 
 same-length-3 : tie.Need-same-length-3
-same-length-3 c = (layout-of (c .before .before .before .before .before .before .before .before .before .before)) .lay-needs .kept .1 .1 .1 .1 .1 .1 .1 .0
+same-length-3 c = (layout-of (c .before .before .before .before .before .before .before .before .before .before)) .lay-needs .kept .1 .1 .1 .1 .1 .1 .1 .1 .1 .0
 
 same-length-4 : tie.Need-same-length-4
-same-length-4 c = (layout-of (c .before .before .before .before .before .before .before .before .before .before)) .lay-needs .kept .1 .1 .1 .1 .1 .1 .1 .1 .0
+same-length-4 c = (layout-of (c .before .before .before .before .before .before .before .before .before .before)) .lay-needs .kept .1 .1 .1 .1 .1 .1 .1 .1 .1 .1 .0
 
 same-length-5 : tie.Need-same-length-5
 same-length-5 c = (c .before .before .before .before .before .before .before .before .before .before) .walk-items .kept .1 .1 .1 .1 .1 .1 .1 .1 .1 .1 .1 .1 .1 .1 .1 .0
@@ -57,22 +59,22 @@ same-length-6 : tie.Need-same-length-6
 same-length-6 c = (c .before .before .before .before .before .before .before .before .before .before) .walk-items .kept .1 .1 .1 .1 .1 .1 .1 .1 .1 .1 .1 .1 .1 .1 .0
 
 same-length-7 : tie.Need-same-length-7
-same-length-7 c = (layout-of (c .before .before .before .before .before .before .before .before .before .before)) .lay-needs .kept .1 .1 .1 .1 .1 .1 .1 .1 .1 .0
+same-length-7 c = (layout-of (c .before .before .before .before .before .before .before .before .before .before)) .lay-needs .kept .1 .1 .1 .1 .1 .1 .1 .1 .1 .1 .1 .0
 
 same-length-8 : tie.Need-same-length-8
-same-length-8 c = (layout-of (c .before .before .before .before .before .before .before .before .before .before)) .lay-needs .kept .1 .1 .1 .1 .1 .1 .1 .1 .1 .1 .0
+same-length-8 c = (layout-of (c .before .before .before .before .before .before .before .before .before .before)) .lay-needs .kept .1 .1 .1 .1 .1 .1 .1 .1 .1 .1 .1 .1 .0
 
 same-length-9 : tie.Need-same-length-9
-same-length-9 c = (layout-of (c .before .before .before .before .before .before .before .before .before .before)) .lay-needs .kept .1 .1 .1 .1 .1 .1 .1 .1 .1 .1 .1 .1 .0
+same-length-9 c = (layout-of (c .before .before .before .before .before .before .before .before .before .before)) .lay-needs .kept .1 .1 .1 .1 .1 .1 .1 .1 .1 .1 .1 .1 .1 .1 .0
 
 same-length-10 : tie.Need-same-length-10
-same-length-10 c = (layout-of (c .before .before .before .before .before .before .before .before .before .before)) .lay-needs .kept .1 .1 .1 .1 .1 .1 .1 .1 .1 .1 .1 .1 .1 .1 .0
+same-length-10 c = (layout-of (c .before .before .before .before .before .before .before .before .before .before)) .lay-needs .kept .1 .1 .1 .1 .1 .1 .1 .1 .1 .1 .1 .1 .1 .1 .1 .1 .0
 
 same-length-11 : tie.Need-same-length-11
-same-length-11 c = (layout-of (c .before .before .before .before .before .before .before .before .before .before)) .lay-needs .kept .1 .1 .1 .1 .1 .1 .1 .1 .1 .1 .1 .0
+same-length-11 c = (layout-of (c .before .before .before .before .before .before .before .before .before .before)) .lay-needs .kept .1 .1 .1 .1 .1 .1 .1 .1 .1 .1 .1 .1 .1 .0
 
 same-length-12 : tie.Need-same-length-12
-same-length-12 c = (layout-of (c .before .before .before .before .before .before .before .before .before .before)) .lay-needs .kept .1 .1 .1 .1 .1 .1 .1 .1 .1 .1 .1 .1 .1 .0
+same-length-12 c = (layout-of (c .before .before .before .before .before .before .before .before .before .before)) .lay-needs .kept .1 .1 .1 .1 .1 .1 .1 .1 .1 .1 .1 .1 .1 .1 .1 .0
 
 same-length-13 : tie.Need-same-length-13
 same-length-13 c = (c .before .before .before .before .before .before .before .before .before .before) .walk-items .kept .1 .1 .1 .1 .1 .1 .1 .1 .1 .1 .1 .1 .1 .1 .1 .1 .0
@@ -88,8 +90,9 @@ returns c =
     let walked = c .before .before .before .before .before .before .before .before .before .before in
     let laid = layout-of walked in
     let start = start-of laid in
-    λ p able.
-    walked .walk-items .ensures (groupOf p (start .args .modules .now)) (walkable able (start .pre .1 .1) (laid .lay-needs .ensures) refl)
+    λ p able space.
+    let shown = laid .lay-needs .ensures (able .needs-own .own) (able .needs-own .along) (lay-room able space) in
+    walked .walk-items .ensures (groupOf p (start .args .modules .now)) (walkable able space shown refl)
 
 pub walk-group-spec : {M : Type 1} → statement M
 walk-group-spec =

@@ -14,10 +14,10 @@ placed-of c = c .before .before .before .before
 abbrev moved-of : tie.After-first-list → tie.After-clear-words2
 moved-of c = c .before .before .before .before
 
-abbrev list-of : tie.After-run → tie.After-first-list
+abbrev list-of : tie.After-walk-all → tie.After-first-list
 list-of c = c .before .before .before .before .before .before .before .before .before
 
-abbrev run-of : tie.After-slice-known13 → tie.After-run
+abbrev run-of : tie.After-slice-known13 → tie.After-walk-all
 run-of c = c .before .before .before .before .before .before .before .before .before .before
 
 clear-words-requires : tie.Need-clear-words-requires
@@ -39,13 +39,13 @@ first-list-requires c κs = search needs
 new-requires : tie.Need-new-requires
 new-requires c κs = search needs
 
-mul-run : tie.Need-mul-run
-mul-run c =
+mul-walk-all : tie.Need-mul-walk-all
+mul-walk-all c =
     let start = c .before .before .before .before .before .before .before .before .before .before .before .before .before .before .before .before .before .before .before .before .before .before .before .before .before .before .before .before .before .before in
     omega (arith, start .pre .1 .1 .laid .paths-shown .most)
 
-run-requires : tie.Need-run-requires
-run-requires c κs =
+walk-all-requires : tie.Need-walk-all-requires
+walk-all-requires c κs =
     let made = c .before .before .before .before .before in
     let listed = made .before .before .before in
     let moved = listed .before .before .before .before in
@@ -64,19 +64,19 @@ run-requires c κs =
     )
 
 same-length : tie.Need-same-length
-same-length c = run-of c .run .kept .1 .1 .1 .1 .1 .1 .1 .1 .1 .1 .1 .1 .0 ∙ (placed-of (moved-of (list-of (run-of c)))) .clear-words .kept .0
+same-length c = run-of c .walk-all .kept .1 .1 .1 .1 .1 .1 .1 .1 .1 .1 .1 .1 .0 ∙ (placed-of (moved-of (list-of (run-of c)))) .clear-words .kept .0
 
 same-length-2 : tie.Need-same-length-2
-same-length-2 c = run-of c .run .kept .1 .1 .1 .1 .1 .1 .1 .1 .1 .1 .1 .1 .1 .0 ∙ (moved-of (list-of (run-of c))) .clear-words2 .kept .0
+same-length-2 c = run-of c .walk-all .kept .1 .1 .1 .1 .1 .1 .1 .1 .1 .1 .1 .1 .1 .0 ∙ (moved-of (list-of (run-of c))) .clear-words2 .kept .0
 
 same-length-3 : tie.Need-same-length-3
-same-length-3 c = run-of c .run .kept .1 .1 .1 .1 .1 .1 .1 .1 .1 .1 .1 .1 .1 .1 .0
+same-length-3 c = run-of c .walk-all .kept .1 .1 .1 .1 .1 .1 .1 .1 .1 .1 .1 .1 .1 .1 .0
 
 same-length-4 : tie.Need-same-length-4
-same-length-4 c = run-of c .run .kept .1 .1 .1 .1 .1 .1 .1 .1 .1 .1 .1 .1 .1 .1 .1 .0
+same-length-4 c = run-of c .walk-all .kept .1 .1 .1 .1 .1 .1 .1 .1 .1 .1 .1 .1 .1 .1 .1 .0
 
 same-length-5 : tie.Need-same-length-5
-same-length-5 c = run-of c .run .kept .1 .1 .1 .1 .1 .1 .1 .1 .1 .1 .1 .1 .1 .1 .1 .1 .0 ∙ (list-of (run-of c)) .first-list .kept .1 .1 .1 .1 .0
+same-length-5 c = run-of c .walk-all .kept .1 .1 .1 .1 .1 .1 .1 .1 .1 .1 .1 .1 .1 .1 .1 .1 .0 ∙ (list-of (run-of c)) .first-list .kept .1 .1 .1 .1 .0
 
 returns : tie.Need-returns
 returns c =
@@ -87,7 +87,7 @@ returns c =
     let placed = moved .before .before .before .before in
     let start = placed .before .before .before .before .before .before .before .before .before .before .before .before .before .before .before .before .before .before .before in
     λ g able.
-    ran .run .ensures g (itemStart g) (able .count-is)
+    ran .walk-all .ensures g (itemStart g) (able .count-is)
     (walking-first able (placed .clear-words .ensures) (placed .clear-words .kept .0) (moved .clear-words2 .ensures) (moved .clear-words2 .kept .0)
     (listed .first-list .ensures g (able .listable)) (listed .first-list .kept .1 .1 .1 .1 .0) (made .new .ensures))
 
@@ -100,8 +100,8 @@ walk-items-spec =
     clear-words-requires-2
     first-list-requires
     new-requires
-    mul-run
-    run-requires
+    mul-walk-all
+    walk-all-requires
     same-length
     same-length-2
     same-length-3

@@ -3,7 +3,7 @@
 use Prim.Native.Nat.{_+_, _-_, _≤_}
 use native.Mathlib.Omega.{arith}
 use mathlib.Core.Path.{_≡_, refl, sym, _∙_}
-use lib.ListN.{length, length-set, take, drop}
+use lib.ListN.{length, getD, length-set, take, drop}
 use lib.Seq.{sets}
 use Rattle.group.specs.Written.{rowsOf}
 use Rattle.group.specs.WriteLaws.{written-more, written-all}
@@ -33,17 +33,19 @@ cast-x c = omega (arith, c .shared-slice-known .given (c .before .before .loop .
 mul-out : tie.Need-mul-out Inv-loop μ-loop
 mul-out c =
     let start = c .before .before .before in
-    omega (arith, start .pre .numbers-below (c .before .before .loop .j) (c .before .loop-test .taken))
+    omega (arith, start .pre .rows-size, start .pre .numbers-below (c .before .before .loop .j) (c .before .loop-test .taken))
 
 shared-slice-read-out : tie.Need-shared-slice-read-out Inv-loop μ-loop
 shared-slice-read-out c =
     let start = c .before .before .before .before in
-    omega (arith, start .pre .numbers-below (c .before .before .before .loop .j) (c .before .before .loop-test .taken))
+    omega (arith, start .pre .rows-size, start .pre .numbers-below (c .before .before .before .loop .j) (c .before .before .loop-test .taken))
 
 cast-out : tie.Need-cast-out Inv-loop μ-loop
 cast-out c =
     let start = c .before .before .before .before in
-    omega (arith, start .pre .rows-below (c .before .before .before .loop .j) (c .before .before .loop-test .taken))
+    let x = getD (start .args .order .now) (c .before .before .before .loop .j) 0 in
+    let below = start .pre .numbers-below (c .before .before .before .loop .j) (c .before .before .loop-test .taken) in
+    omega (arith, start .pre .rows-below x below)
 
 add-out : tie.Need-add-out Inv-loop μ-loop
 add-out c = omega (arith, c .before .before .before .before .pre .room)

@@ -13,7 +13,7 @@ sub-push-waiting c = some-entry (c .before .before .before .before .before .befo
 push-waiting-requires : tie.Need-push-waiting-requires
 push-waiting-requires c κs =
     let start = c .before .before .before .before .before .before .before .before .before .before in
-    ((start .pre .0, start .pre .2, start .pre .3), listed-less (start .pre .4 .entries))
+    ((start .pre .0, start .pre .2, start .pre .3, λ k h g. start .pre .5 k h (omega arith)), listed-less (start .pre .4 .entries))
 
 same-length : tie.Need-same-length
 same-length c = refl

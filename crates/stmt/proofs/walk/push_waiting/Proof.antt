@@ -11,7 +11,7 @@ use Rattle.rules.specs.Items.{Group}
 use Rattle.rules.specs.Calls.{itemListLimit}
 use Rattle.lists.specs.ChainLaws.{left}
 use Rattle.stmt.specs.Walks.{Awaited}
-use Rattle.stmt.specs.WalkLaws.{chain-less, end-below, waiting-bit, Pushing, pushing-start, pushing-passed, pushing-one, pushing-full, pushing-end}
+use Rattle.stmt.specs.WalkLaws.{chain-less, end-below, waiting-bit, Pushing, pushing-start, pushing-passed, pushing-room, pushing-one, pushing-full, pushing-end}
 use Rattle.stmt.proofs.walk.push_waiting.Statement.{statement}
 use Rattle.stmt.proofs.walk.push_waiting.Tie as tie
 
@@ -77,12 +77,20 @@ returns c g items a =
 
 -- there is room for one more entry
 room : (c : tie.Else2 Inv-loop μ-loop)
-    → (c .before .before .before .before .before .loop .at < itemListLimit) × (length (c .before .before .before .before .before .loop .list) ≡ itemListLimit)
+    → (c .before .before .before .before .before .loop .at < itemListLimit)
+    × (c .before .before .before .before .before .loop .at < length (c .before .before .before .before .before .loop .list))
 room c =
     let head = c .before .before .before .before .before in
     let start = entry (head .before) in
-    let at-head = head .loop .inv .1 (start .pre .0 .0) (start .pre .0 .1) (start .pre .0 .2) in
-    (omega (arith, at-head .listed .within, c .if2 .left), at-head .listed .size)
+    let a = start .pre .0 .2 in
+    let at-head = head .loop .inv .1 (start .pre .0 .0) (start .pre .0 .1) a in
+    let below = end-below (a .chained) (head .loop .e) (omega arith) (at-head .most) in
+    let within : head .loop .at < itemListLimit = omega (arith, at-head .listed .within, c .if2 .left) in (
+      within,
+      pushing-room (start .pre .0 .0) (start .pre .0 .1) (a .chained) (start .args .x) (start .args .list .now) (start .args .end) at-head (omega arith)
+          (waiting-bit a _ below ∙ sym (c .before .before .is-waiting .ensures) ∙ c .before .if1 .taken) (a .formed) within
+          (λ k h g. omega (arith, start .pre .0 .3 k h g, head .loop .inv .0)),
+    )
 
 mul-list : tie.Need-mul-list Inv-loop μ-loop
 mul-list c = omega (arith, room c)
@@ -123,7 +131,8 @@ loop-again c =
           (λ w.
           rw (w .2, w .3)
           (pushing-one g items (a .chained) (start .args .x) (start .args .list .now) (start .args .end) at-head (omega arith) (test ∙ w .0 .taken)
-          (omega (arith, at-head .listed .within))))
+          (omega (arith, at-head .listed .within))
+          (room (record { before = record { before = c .before .before; if1 = w .0 }; if2 = w .1 }) .1)))
           (λ w.
           rw (w .1, w .2)
           (pushing-passed g items (a .chained) (start .args .x) (start .args .list .now) (start .args .end) at-head (omega arith) (test ∙ w .0 .left)))

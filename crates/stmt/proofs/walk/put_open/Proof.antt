@@ -35,7 +35,7 @@ returns c =
 loop-holds : tie.Need-loop-holds Inv-loop μ-loop
 loop-holds c =
     let a = c .before .before .args in
-    (omega arith, put-none (a .n) (a .«open» .now) (c .before .before .pre .1) (omega arith) (omega (arith, c .before .before .pre .0 .size)))
+    (omega arith, put-none (a .n) (a .«open» .now) (c .before .before .pre .1) (omega arith) (c .before .before .pre .2 _ (omega arith) (omega arith)))
 
 mul-list : tie.Need-mul-list Inv-loop μ-loop
 mul-list c = omega arith
@@ -75,7 +75,8 @@ returns-2 c =
     let start = c .before .before .before .before in
     let head = c .before .loop in
     relisted
-    (put-all (start .args .n) (start .args .«open» .now) (start .pre .1) (head .i) (omega arith) refl (omega arith) (start .pre .0) (head .inv .1))
+    (put-all (start .args .n) (start .args .«open» .now) (start .pre .1) (start .args .w .end) (head .i) (omega arith) refl (omega arith)
+    (start .pre .2 _ (omega arith) (omega arith)) (head .inv .1))
 
 pub put-open-spec : {M : Type 1} → statement M
 put-open-spec =

@@ -2,7 +2,7 @@
 -- definition goes on, with the visits made. The measure is what is left of the allowance. Assumes nothing.
 use Prim.Native.Nat.{ℕ, _-_, _≤_, _<_}
 use native.Mathlib.Omega.{arith}
-use mathlib.Core.Path.{_≡_, refl, sym, _∙_}
+use mathlib.Core.Path.{_≡_, refl, sym, subst, _∙_}
 use mathlib.Core.Logic.{_⊎_, ⊎-elim}
 use mathlib.Core.List.{List}
 use lib.ListN.{length}
@@ -12,8 +12,8 @@ use Rattle.rules.specs.Calls.{itemListLimit}
 use Rattle.laws.specs.Splits.{size}
 use Rattle.stmt.specs.declared.walk.Outcome.{Outcome}
 use Rattle.stmt.proofs.walk.Outcome.{the-type}
-use Rattle.stmt.specs.Walks.{Walking, Running, Came, went-on, placed-one, was-full}
-use Rattle.stmt.specs.RunLaws.{entry-left, runs-first, ends, spends, shown-on, shown-placed, fills, goes-on}
+use Rattle.stmt.specs.Walks.{Room, Walking, Running, Came, went-on, placed-one, was-full, has-ended, was-crowded}
+use Rattle.stmt.specs.RunLaws.{entry-left, runs-first, ends, spends, shown-on, shown-placed, fills, goes-on, roomy, crowds}
 use Rattle.stmt.proofs.walk.run.Statement.{statement}
 use Rattle.stmt.proofs.walk.run.Tie as tie
 
@@ -69,7 +69,7 @@ same-length-5 : tie.Need-same-length-5 Inv-loop μ-loop
 same-length-5 c = c .before .before .loop .inv .1 .of-list
 
 returns : tie.Need-returns Inv-loop μ-loop
-returns c g s e h = ends (c .before .before .loop .inv .2 g s e h) e (c .if1 .taken)
+returns c g s e h = has-ended (ends (c .before .before .loop .inv .2 g s e h) e (c .if1 .taken))
 
 same-length-6 : tie.Need-same-length-6 Inv-loop μ-loop
 same-length-6 c = c .before .before .before .loop .inv .1 .of-placed
@@ -87,25 +87,63 @@ same-length-10 : tie.Need-same-length-10 Inv-loop μ-loop
 same-length-10 c = c .before .before .before .loop .inv .1 .of-list
 
 returns-2 : tie.Need-returns-2 Inv-loop μ-loop
-returns-2 c g s e h = spends (c .before .before .before .loop .inv .2 g s e h) (λ q. c .before .if1 .left (q ∙ sym e)) (c .if2 .taken)
-
-add-made : tie.Need-add-made Inv-loop μ-loop
-add-made c = omega arith
+returns-2 c g s e h = has-ended (spends (c .before .before .before .loop .inv .2 g s e h) (λ q. c .before .if1 .left (q ∙ sym e)) (c .if2 .taken))
 
 abbrev entry : tie.At-loop Inv-loop μ-loop → tie.Start Inv-loop μ-loop
 entry c = c .before .before .before .before .before .before .before .before .before .before .before .before .before .before .before .before .before
 
+-- at the loop's head, for the group that the contract names
+running : (h : tie.At-loop Inv-loop μ-loop)
+    → Running (entry h .pre .1 .0) (entry h .args .to .now) (entry h .args .heads-out .now) (entry h .args .next-out .now) (entry h .args .from .now)
+    (entry h .args .heads-in .now) (entry h .args .next-in .now) (entry h .args .paths .now) (entry h .args .weak .now) (entry h .args .kinds .now)
+    (entry h .args .low .now) (entry h .args .high .now) (entry h .args .width) (entry h .args .allowance) (entry h .args .already) (entry h .pre .1 .1)
+    (h .loop .placed) (h .loop .moved) (h .loop .«open») (h .loop .order) (h .loop .list) (h .loop .w) (h .loop .made)
+running h = h .loop .inv .2 (entry h .pre .1 .0) (entry h .pre .1 .1) (entry h .pre .1 .2) (entry h .pre .1 .3)
+
+is-crowded-requires : tie.Need-is-crowded-requires Inv-loop μ-loop
+is-crowded-requires c κs =
+    let h = c .before .before .before in
+    let r = running h .walking in
+    (r .shows .entries .within, omega (arith, entry h .pre .1 .2, r .laid .paths-shown .within, r .laid .paths-shown .most))
+
+same-length-11 : tie.Need-same-length-11 Inv-loop μ-loop
+same-length-11 c = c .before .before .before .before .before .loop .inv .1 .of-placed
+
+same-length-12 : tie.Need-same-length-12 Inv-loop μ-loop
+same-length-12 c = c .before .before .before .before .before .loop .inv .1 .of-moved
+
+same-length-13 : tie.Need-same-length-13 Inv-loop μ-loop
+same-length-13 c = c .before .before .before .before .before .loop .inv .1 .of-open
+
+same-length-14 : tie.Need-same-length-14 Inv-loop μ-loop
+same-length-14 c = c .before .before .before .before .before .loop .inv .1 .of-order
+
+same-length-15 : tie.Need-same-length-15 Inv-loop μ-loop
+same-length-15 c = c .before .before .before .before .before .loop .inv .1 .of-list
+
+returns-3 : tie.Need-returns-3 Inv-loop μ-loop
+returns-3 c g s e h =
+    let at-head = c .before .before .before .before .before in
+    let test = c .before .is-crowded in
+    was-crowded (crowds (length (at-head .loop .list)) (at-head .loop .w .end) (entry at-head .args .n) (sym (test .ensures) ∙ c .if3 .taken)) (at-head .loop .inv .0)
+    (at-head .loop .inv .2 g s e h)
+
+add-made : tie.Need-add-made Inv-loop μ-loop
+add-made c = omega arith
+
 visit-requires : tie.Need-visit-requires Inv-loop μ-loop
 visit-requires c κs =
-    let head = c .before .before .before .before .before .before .before .before in
+    let tests = c .before .before .before .before .before in
+    let head = tests .before .before .before .before .before in
     let start = entry head in
-    let r = head .loop .inv .2 (start .pre .1 .0) (start .pre .1 .1) (start .pre .1 .2) (start .pre .1 .3) in
-    let some = entry-left (r .walking) (λ q. c .before .before .before .before .before .before .if1 .left (q ∙ sym (start .pre .1 .2))) in
-    (some, (start .pre .1 .0, r .state, r .walking))
+    let r = running head in
+    let some = entry-left (r .walking) (λ q. tests .before .before .before .if1 .left (q ∙ sym (start .pre .1 .2))) in
+    let room = roomy (head .loop .w .end) (start .args .n) (head .loop .list) refl (sym (tests .before .is-crowded .ensures) ∙ tests .if3 .left) in
+    (some, (start .pre .1 .0, r .state, r .walking, subst (λ (n : ℕ). Room n (head .loop .list) (head .loop .w .end)) (start .pre .1 .2) room))
 
 -- after the visit
 abbrev head : tie.After-visit Inv-loop μ-loop → tie.At-loop Inv-loop μ-loop
-head v = v .before .before .before .before .before .before .before .before .before
+head v = v .before .before .before .before .before .before .before .before .before .before .before
 
 lengths : (v : tie.After-visit Inv-loop μ-loop)
     → Lengths (entry (head v) .args .placed .now) (entry (head v) .args .moved .now) (entry (head v) .args .«open» .now)
@@ -126,10 +164,10 @@ lengths v =
     }
 
 more : (v : tie.After-visit Inv-loop μ-loop) (g : Group) → entry (head v) .args .n ≡ size g → head v .loop .w .placed ≡ size g → ⊥
-more v g e q = v .before .before .before .before .before .before .before .if1 .left (q ∙ sym e)
+more v g e q = v .before .before .before .before .before .before .before .before .before .if1 .left (q ∙ sym e)
 
 left : (v : tie.After-visit Inv-loop μ-loop) → head v .loop .made < entry (head v) .args .allowance
-left v = omega (arith, v .before .before .before .before .before .before .if2 .left, head v .loop .inv .0)
+left v = omega (arith, v .before .before .before .before .before .before .before .before .if2 .left, head v .loop .inv .0)
 
 enum-known-o : tie.Need-enum-known-o Inv-loop μ-loop
 enum-known-o c = c .match .keys1
@@ -137,26 +175,26 @@ enum-known-o c = c .match .keys1
 enum-known-o-2 : tie.Need-enum-known-o-2 Inv-loop μ-loop
 enum-known-o-2 c = c .match2 .keys1
 
-same-length-11 : tie.Need-same-length-11 Inv-loop μ-loop
-same-length-11 c = lengths (c .before .before .before .before .before .before .before .before .before .before .before .before) .of-placed
+same-length-16 : tie.Need-same-length-16 Inv-loop μ-loop
+same-length-16 c = lengths (c .before .before .before .before .before .before .before .before .before .before .before .before) .of-placed
 
-same-length-12 : tie.Need-same-length-12 Inv-loop μ-loop
-same-length-12 c = lengths (c .before .before .before .before .before .before .before .before .before .before .before .before) .of-moved
+same-length-17 : tie.Need-same-length-17 Inv-loop μ-loop
+same-length-17 c = lengths (c .before .before .before .before .before .before .before .before .before .before .before .before) .of-moved
 
-same-length-13 : tie.Need-same-length-13 Inv-loop μ-loop
-same-length-13 c = lengths (c .before .before .before .before .before .before .before .before .before .before .before .before) .of-open
+same-length-18 : tie.Need-same-length-18 Inv-loop μ-loop
+same-length-18 c = lengths (c .before .before .before .before .before .before .before .before .before .before .before .before) .of-open
 
-same-length-14 : tie.Need-same-length-14 Inv-loop μ-loop
-same-length-14 c = lengths (c .before .before .before .before .before .before .before .before .before .before .before .before) .of-order
+same-length-19 : tie.Need-same-length-19 Inv-loop μ-loop
+same-length-19 c = lengths (c .before .before .before .before .before .before .before .before .before .before .before .before) .of-order
 
-same-length-15 : tie.Need-same-length-15 Inv-loop μ-loop
-same-length-15 c = lengths (c .before .before .before .before .before .before .before .before .before .before .before .before) .of-list
+same-length-20 : tie.Need-same-length-20 Inv-loop μ-loop
+same-length-20 c = lengths (c .before .before .before .before .before .before .before .before .before .before .before .before) .of-list
 
-returns-3 : tie.Need-returns-3 Inv-loop μ-loop
-returns-3 c g s e h =
+returns-4 : tie.Need-returns-4 Inv-loop μ-loop
+returns-4 c g s e h =
     let v = c .before .before .before .before .before .before .before .before .before .before .before .before in
     let r = head v .loop .inv .2 g s e h in
-    fills r (more v g e) (left v) _ (only-full (v .visit .ensures g (r .state) (r .walking)) (c .before .match .keys2) (c .match2 .keys2))
+    has-ended (fills r (more v g e) (left v) _ (only-full (v .visit .ensures g (r .state) (r .walking)) (c .before .match .keys2) (c .match2 .keys2)))
 
 loop-less : tie.Need-loop-less Inv-loop μ-loop
 loop-less c = let v = c .before .before .before .before .before .before .before .before .before .before .before .before .before .before in omega (arith, left v)
@@ -205,16 +243,23 @@ run-spec =
     same-length-9
     same-length-10
     returns-2
-    add-made
-    visit-requires
-    enum-known-o
-    enum-known-o-2
+    is-crowded-requires
     same-length-11
     same-length-12
     same-length-13
     same-length-14
     same-length-15
     returns-3
+    add-made
+    visit-requires
+    enum-known-o
+    enum-known-o-2
+    same-length-16
+    same-length-17
+    same-length-18
+    same-length-19
+    same-length-20
+    returns-4
     loop-less
     loop-again
     loop-less-2

@@ -17,7 +17,9 @@ mul-x : tie.Need-mul-x
 mul-x c = search needs
 
 slice-read-x : tie.Need-slice-read-x
-slice-read-x c = search needs
+slice-read-x c =
+    let start = entry (c .before) in
+    omega (arith, start .pre .1 .3 (start .args .w .end) (start .pre .1 .2 .shows .entries .within) (omega arith))
 
 cast-row-has : tie.Need-cast-row-has
 cast-row-has c = omega (arith, c .before .slice-known6 .given (entry (c .before .before) .args .w .end - 1))
@@ -40,7 +42,7 @@ visit-unplaced-requires c κs =
     let tested = c .before .before .before .before .before in
     let start = entry (tested .before .before .before .before) in
     let f = in-front (start .pre .1 .1) (start .pre .1 .2) (start .pre .0) in
-    (start .pre .1 .0, f .0, f .1, f .2, sym (front-bit (f .3)) ∙ sym (tested .before .row-has .ensures) ∙ tested .if1 .left, f .3)
+    (start .pre .1 .0, f .0, f .1, f .2, sym (front-bit (f .3)) ∙ sym (tested .before .row-has .ensures) ∙ tested .if1 .left, f .3, start .pre .1 .3)
 
 same-length-2 : tie.Need-same-length-2
 same-length-2 c =

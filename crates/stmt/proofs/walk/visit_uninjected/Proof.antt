@@ -49,7 +49,7 @@ put-preceding-requires : tie.Need-put-preceding-requires
 put-preceding-requires c κs =
     let start = entry (c .before .before .before .before .before .before .before .before) in
     let s = start .pre .4 in
-    ((start .pre .0, start .pre .2, s .awaited), (some-entry (s .front .entries), listed-self (s .front .entries)))
+    ((start .pre .0, start .pre .2, s .awaited, start .pre .5), (some-entry (s .front .entries), listed-self (s .front .entries)))
 
 same-length-4 : tie.Need-same-length-4
 same-length-4 c = refl

@@ -2,7 +2,7 @@
 use native.Mathlib.Omega.{arith}
 use mathlib.Core.Path.{_≡_, refl, _∙_}
 use borrow.Author.Needs.{needs}
-use Rattle.stmt.specs.WalkLaws.{listed-self}
+use Rattle.stmt.specs.WalkLaws.{found-most, listed-self}
 use Rattle.stmt.specs.VisitLaws.{front-below, findable, awaited, front, settling, visit-puts, visit-injected, visit-uninjected}
 use Rattle.stmt.proofs.walk.visit_unplaced.Statement.{statement}
 use Rattle.stmt.proofs.walk.visit_unplaced.Tie as tie
@@ -20,7 +20,8 @@ put-open-requires c κs =
     let finding = c .before .before .before .before .before .before .before in
     let start = entry (finding .before) in
     let f = finding .find-open .ensures (start .pre .0) (start .pre .2) (start .pre .3) (findable (start .pre .4) (start .pre .5)) in
-    (listed-self (front (start .pre .4) (start .pre .5) .entries), f .within)
+    let most = found-most (start .pre .5 .laid .formed) f in
+    (listed-self (front (start .pre .4) (start .pre .5) .entries), f .within, λ k h g. start .pre .6 k h (omega arith))
 
 same-length : tie.Need-same-length
 same-length c = refl
@@ -51,7 +52,7 @@ shared-slice-read-if2 c =
 place-injected-requires : tie.Need-place-injected-requires
 place-injected-requires c κs =
     let start = entry (c .before .before .before .before .before .before .before .before .before .before .before .before) in
-    (start .pre .0, start .pre .1, start .pre .2, awaited (start .pre .4) (start .pre .5), front (start .pre .4) (start .pre .5))
+    (start .pre .0, start .pre .1, start .pre .2, awaited (start .pre .4) (start .pre .5), front (start .pre .4) (start .pre .5), start .pre .6)
 
 same-length-5 : tie.Need-same-length-5
 same-length-5 c = c .before .before .before .before .before .before .place-injected .kept .1 .1 .1 .1 .0
@@ -99,6 +100,7 @@ visit-uninjected-requires c κs =
       start .pre .2,
       f .after,
       settling (start .pre .4) (start .pre .5) f (omega (arith, tests .before .before .before .if1 .left)) (tests .if2 .left),
+      start .pre .6,
     )
 
 same-length-10 : tie.Need-same-length-10

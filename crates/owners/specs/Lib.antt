@@ -1,0 +1,4 @@
+pub mod Owners
+pub mod GroupBytes
+pub mod OwnerLaws
+pub mod KeyLaws
