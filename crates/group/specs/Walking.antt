@@ -42,7 +42,7 @@ wordsFor n = (n + 63) / 64
 abbrev pub Sized : ℕ → List ℕ → Type 0
 Sized n matrix = n * wordsFor n ≤ length matrix
 
--- An array in which the first list of a group fits, of a project with this many items: "at most" the number of laws' firstList-most, for 64 modules.
+-- An array in which the first list of every group fits, of a project with this many items: the bound of laws' firstList-most for 64 modules.
 pub record FirstRoom (items : ℕ) (list : List ℕ) : Type 0 where
   pub more : ℕ
   pub enough : 63 ≤ more
