@@ -10,16 +10,16 @@ use lib.Dec.{eqb, leb}
 use lib.ListN.{length, take, drop, set, getD, length-set, length-append, length-drop, length-reverse, drop-of-length-le}
 use lib.Seq.{length-take-le, take-at, drop-at, drop-length, take-suc, take-all, drop-cons, take-suc-set, drop-set-lt, drop-drop, append-snoc, set-at}
 use borrow.Author.Tests.{eq-eqb, ne-eqb, leb-false, lt-leb}
-use Rattle.rules.specs.Lists.{consIf, keep, upFrom, elem, appendNew, different}
+use Rattle.rules.specs.Lists.{consIf, keep, any, upFrom, elem, appendNew, different}
 use Rattle.rules.specs.Project.{Project, moduleLimit, joinFirst, listsFrom, circleLists, badCircles}
 use Rattle.rules.specs.Circles as rules
 use Rattle.rules.specs.Circles.{following, listedWith, withFound, followMember, followMembers, followModule, gatheredOf, gather}
 use Rattle.rules.specs.Modules.{circleOf}
-use Rattle.laws.specs.Lists.{_∈_, false≢true, not-true, or-right, Tested, holds, fails, tested, elem-true, elem-false, true-elem, keep-∈, ∈-keep, ∈-append, Once, none, next, once-snoc, once-keep, once-length, length-parts, once-reverse, once-upFrom, ∈-upFrom, upFrom-∈, length-upFrom, appendNew-old, appendNew-new, ∈-appendNew-right}
+use Rattle.laws.specs.Lists.{_∈_, false≢true, not-true, or-right, Tested, holds, fails, tested, any-false, elem-true, elem-false, true-elem, keep-∈, ∈-keep, ∈-append, Once, none, next, once-snoc, once-keep, once-length, length-parts, once-reverse, once-upFrom, ∈-upFrom, upFrom-∈, length-upFrom, appendNew-old, appendNew-new, ∈-appendNew-right}
 use Rattle.laws.specs.Counting.{neither, Below, below-cons, below-nil, below-length}
 use Rattle.laws.specs.Orders.{below-reverse}
 use Rattle.laws.specs.Accepted.{Accepted}
-use Rattle.laws.specs.Gathering.{gather-deeper}
+use Rattle.laws.specs.Gathering.{circle-none, gather-deeper, circle-of}
 use Rattle.lists.specs.Bits.{bit}
 use Rattle.lists.specs.BitLaws.{bit-zero}
 use Rattle.chunk.specs.declared.circles.Gathered.{Gathered}
@@ -254,6 +254,24 @@ module _ (section : List ℕ) (m : ℕ) (before : List ℕ) where
   unfolding appendNew circleLists listsFrom flatten keep
   listing-end h l = record { front = rw (drop-of-length-le section h) at (l .whole); grows = l .grows }
 
+-- Looking for a list that holds a module: one of the section does if one from position `i` on does, and they are sound.
+pub record Looking (section : List ℕ) (m i : ℕ) : Type 0 where
+  pub same : any (elem m) (circleLists (drop i section)) ≡ any (elem m) (circleLists section)
+  pub sound : badCircles moduleLimit 0 (drop i section) ≡ false
+
+module _ (section : List ℕ) (m i : ℕ) (s : Looking section m i) where
+  pub looking-held : ListAt section i → elem m (membersAt section i) ≡ true → any (elem m) (circleLists section) ≡ true
+  unfolding any
+  looking-held t e = sym (s .same) ∙ rw (t .lists, e)
+
+  pub looking-other : ListAt section i → elem m (membersAt section i) ≡ false → Looking section m (endAt section i)
+  unfolding any
+  looking-other t e = record { same = rw (t .lists, e) at (s .same); sound = t .sound }
+
+  pub looking-end : length section ≤ i → any (elem m) (circleLists section) ≡ false
+  unfolding any circleLists listsFrom
+  looking-end h = sym (s .same) ∙ rw (drop-of-length-le section h)
+
 -- In the definition a call gathers for itself, and its caller appends what is new. It may as well be appended at once.
 found-found : (g x : List ℕ) (f : rules.Following) → withFound g (withFound x f) ≡ withFound (appendNew g x) f
 unfolding withFound
@@ -482,6 +500,16 @@ module _ {array : List ℕ} {g : Gathered} (k : Gathers array g) (before : List 
           marks = λ j. k .marks j ∙ sym (ap (elem j) reversed-front ∙ elem-reverse j (gatheredOn array g));
         };
       }
+
+-- A module in no list gathers nothing.
+pub circle-nothing : {section : List ℕ} {m : ℕ} {before : List ℕ} {g : Gathered} → CircleReady section m before → any (elem m) (circleLists section) ≡ false
+    → g ≡ nothing → CircleGathered section m before before g
+circle-nothing {section} {m} {before} ready f e =
+    subst⁻¹ (CircleGathered section m before before) e
+    (record {
+      circle = λ p a same h. sym (circle-none (circle-of a m h) (λ l k n. any-false (elem m) f (rw same at k) (true-elem n)));
+      grows = grows-none (gathers-nothing (ready .room));
+    })
 
 module _ (section : List ℕ) (m : ℕ) {before array : List ℕ} {g : Gathered} (ready : CircleReady section m before) (e : g ≡ nothing) where
   pub module-ready : moduleLimit ≤ length array → ModuleReady section m array (record { gathered = g; noted = 0 })

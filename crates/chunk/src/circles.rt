@@ -5,8 +5,8 @@ ghost use mathlib.Core.Path.{_≡_};
 ghost use mathlib.Core.Bool.{false};
 ghost use mathlib.Core.List.{[], _∷_, _++_, reverse};
 ghost use lib.ListN.{length, drop};
-ghost use Rattle.rules.specs.Lists.{elem};
-ghost use Rattle.rules.specs.Project.{moduleLimit, badCircles};
+ghost use Rattle.rules.specs.Lists.{any, elem};
+ghost use Rattle.rules.specs.Project.{moduleLimit, circleLists, badCircles};
 ghost use Rattle.laws.specs.Counting.{Below};
 ghost use Rattle.chunk.specs.Circles.{nothing, Gathers, Appended, Listed, ModuleReady, MembersReady, FollowsModule, FollowsMembers, CircleReady, CircleGathered};
 use lists::bits;
@@ -102,6 +102,23 @@ fn listed_with(section: &[u8], m: u8, array: &mut [u8]) -> Gathered
     r
 }
 
+// Whether a list of the section holds m.
+fn is_listed(section: &[u8], m: u8) -> bool
+    requires { ⌜ badCircles moduleLimit 0 (now section) ≡ false ⌝ }
+    ensures { λ r. ⌜ r ≡ any (elem m) (circleLists (now (section .entry))) ⌝ }
+{
+    let mut at = 0;
+    while at < section.len() {
+        let start = at + 1;
+        let end = start + section[at] as usize;
+        if holds(&section[start..end], m) {
+            return true;
+        }
+        at = end;
+    }
+    false
+}
+
 // Follows a module through its lists.
 fn follow_module(section: &[u8], m: u8, array: &mut [u8], s: Following) -> Following
     requires { ⌜ ModuleReady (now section) m (now array) s ⌝ }
@@ -148,11 +165,14 @@ fn copy_reversed(list: &[u8], array: &mut [u8])
     }
 }
 
-// Gathers the circle of m, reversed.
+// Gathers the circle of m, reversed. A module in no list, as most are, is answered without following it.
 pub fn circle_of(section: &[u8], m: ModuleId, circle: &mut [u8]) -> Gathered
     requires { ⌜ CircleReady (now section) (m .0) (now circle) ⌝ }
     ensures { λ r. ⌜ CircleGathered (now (section .entry)) (m .0) (now (circle .entry)) (now (circle .exit)) r ⌝ }
 {
+    if !is_listed(section, m.0) {
+        return Gathered::new();
+    }
     let mut array = [0u8; Gathered::ROOM];
     let start = Following {
         gathered: Gathered::new(),

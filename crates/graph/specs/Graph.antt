@@ -9,16 +9,19 @@ use Rattle.rules.specs.Project.{Need, needRow}
 use Rattle.rules.specs.Paths.{dependenciesOf, dependantsOf, weightIn, canReach, inPaths}
 use Rattle.lists.specs.Pairs.{Pair, pair, differentPairs, pairsOf, Seen, Room, Added, targets, Onward}
 use Rattle.graph.specs.Rows.{Rows, cleared, Holds, Rest}
+use Rattle.graph.specs.Reach.{Transposed}
 
--- The matrices: of the pairs that needs were added for, of those whose weight is Maybe, of what each item reaches, and of the record of paths.
+-- The matrices: of the pairs that needs were added for, of those whose weight is Maybe, of what each item reaches, where rows have one word of what
+-- reaches each, and of the record of paths.
 pub record Matrices : Type 0 where
   pub seen : List ℕ
   pub weak : List ℕ
   pub reach : List ℕ
+  pub into : List ℕ
   pub paths : List ℕ
 
-abbrev pub matrices : List ℕ → List ℕ → List ℕ → List ℕ → Matrices
-matrices seen weak reach paths = record { seen = seen; weak = weak; reach = reach; paths = paths }
+abbrev pub matrices : List ℕ → List ℕ → List ℕ → List ℕ → List ℕ → Matrices
+matrices seen weak reach into paths = record { seen = seen; weak = weak; reach = reach; into = into; paths = paths }
 
 -- What a graph of n items asks of them: a row for each item.
 pub record Space (words n : ℕ) (m : Matrices) : Type 0 where
@@ -26,6 +29,7 @@ pub record Space (words n : ℕ) (m : Matrices) : Type 0 where
   pub seen-most : length (m .seen) ≤ 65536
   pub weak-rows : Rows words n (m .weak)
   pub reach-rows : Rows words n (m .reach)
+  pub into-rows : Rows words n (m .into)
   pub paths-rows : Rows words n (m .paths)
 
 abbrev pub ends : Need → Pair
@@ -46,6 +50,7 @@ pub record Shows (words n : ℕ) (graph : List Need) (m : Matrices) (from to : L
   pub seen-pairs : Seen n (64 * words) (m .seen) (pairsOf from to count)
   pub weights : Holds words n (isMaybe graph) (m .weak)
   pub reached : Holds words n (canReach graph) (m .reach)
+  pub transposed : words ≡ 1 → Transposed n (m .reach) (m .into)
   pub in-paths : Holds words n (inPaths graph) (m .paths)
 
 -- What clearing gives, whatever stood there: the graph without needs.
@@ -54,17 +59,20 @@ pub record Cleared (words n : ℕ) (m m′ : Matrices) : Type 0 where
   pub seen-whole : m′ .seen ≡ cleared (n * words) (m .seen)
   pub weak-whole : m′ .weak ≡ cleared (n * words) (m .weak)
   pub reach-whole : m′ .reach ≡ cleared (n * words) (m .reach)
+  pub into-whole : words ≡ 1 → m′ .into ≡ cleared (n * words) (m .into)
+  pub into-left : (words ≡ 1 → ⊥) → m′ .into ≡ m .into
   pub paths-whole : m′ .paths ≡ cleared (n * words) (m .paths)
 
 -- What adding the need x to y asks for.
 pub record EdgeRoom (words n x y : ℕ) (m : Matrices) (from to : List ℕ) (count : ℕ) : Type 0 where
   pub space : Space words n m
   pub pairs : Room (64 * words) x y (m .seen) from to count
+  pub transposed : words ≡ 1 → Transposed n (m .reach) (m .into)
   pub first : x < n
   pub second : y < n
 
 -- What it gives: where the arrays showed a graph, they show it with the need. `seen`, `from` and `to` are as lists' pairs leave them, and the rows from
--- n on of the other matrices are as they were.
+-- n on of `weak`, `reach` and `paths` are as they were; those of `into` are left free.
 pub record EdgeAdded (words n x y weight : ℕ) (m : Matrices) (from to : List ℕ) (count : ℕ) (m′ : Matrices) (from′ to′ : List ℕ) (count′ : ℕ)
     : Type 0 where
   pub shows : (graph : List Need) → Shows words n graph m from to count → Shows words n (needRow x y weight ∷ graph) m′ from′ to′ count′

@@ -18,6 +18,7 @@ use Rattle.lists.specs.PairLaws.{addPair-old, length-addPair, seen-added}
 use Rattle.graph.specs.Rows.{cleared, cell, Holds, Rest, Stored}
 use Rattle.graph.specs.RowLaws.{same-place, column, place, rows-sized, rows-cleared}
 use Rattle.graph.specs.Reach.{WayAdded}
+use Rattle.graph.specs.WordLaws.{transposed-cleared}
 use Rattle.graph.specs.Graph.{Matrices, Space, ends, isMaybe, Shows, Cleared, EdgeRoom, EdgeAdded}
 
 -- The different pairs of needs, with one need more.
@@ -74,22 +75,23 @@ stored-below bound false l n x n′ within h held most below j less =
 
 -- The matrices keep their rows while they keep their lengths.
 pub space-sized : {words n : ℕ} {m m′ : Matrices} → Space words n m → length (m′ .seen) ≡ length (m .seen) → length (m′ .weak) ≡ length (m .weak)
-    → length (m′ .reach) ≡ length (m .reach) → length (m′ .paths) ≡ length (m .paths) → Space words n m′
-space-sized {m = m} {m′ = m′} s seen weak reach paths =
+    → length (m′ .reach) ≡ length (m .reach) → length (m′ .into) ≡ length (m .into) → length (m′ .paths) ≡ length (m .paths) → Space words n m′
+space-sized {m = m} {m′ = m′} s seen weak reach into paths =
     record {
       seen-rows = rows-sized (m .seen) (m′ .seen) (s .seen-rows) seen;
       seen-most = omega (arith, s .seen-most);
       weak-rows = rows-sized (m .weak) (m′ .weak) (s .weak-rows) weak;
       reach-rows = rows-sized (m .reach) (m′ .reach) (s .reach-rows) reach;
+      into-rows = rows-sized (m .into) (m′ .into) (s .into-rows) into;
       paths-rows = rows-sized (m .paths) (m′ .paths) (s .paths-rows) paths;
     }
 
 -- Cleared matrices show the graph without needs.
 pub all-cleared : {words n : ℕ} {m m′ : Matrices} → Space words n m′ → m′ .seen ≡ cleared (n * words) (m .seen)
     → m′ .weak ≡ cleared (n * words) (m .weak) → m′ .reach ≡ cleared (n * words) (m .reach) → m′ .paths ≡ cleared (n * words) (m .paths)
-    → Cleared words n m m′
+    → (words ≡ 1 → m′ .into ≡ cleared (n * words) (m .into)) → ((words ≡ 1 → ⊥) → m′ .into ≡ m .into) → Cleared words n m m′
 unfolding differentPairs addPairs pairsOf zipWith holdsPair any isMaybe weightIn canReach inPaths
-all-cleared {words} {n} {m} space seen weak reach paths =
+all-cleared {words} {n} {m} space seen weak reach paths into left =
     record {
       shows =
           λ from to.
@@ -102,11 +104,14 @@ all-cleared {words} {n} {m} space seen weak reach paths =
             seen-pairs = rw seen (rows-cleared words n (m .seen));
             weights = rw weak (rows-cleared words n (m .weak));
             reached = rw reach (rows-cleared words n (m .reach));
+            transposed = λ one. rw (reach, into one, one) (transposed-cleared n (m .reach) (m .into) (omega (arith, space .reach-rows .numbers)));
             in-paths = rw paths (rows-cleared words n (m .paths));
           };
       seen-whole = seen;
       weak-whole = weak;
       reach-whole = reach;
+      into-whole = into;
+      into-left = left;
       paths-whole = paths;
     }
 
@@ -114,7 +119,7 @@ all-cleared {words} {n} {m} space seen weak reach paths =
 module _ {words n x y : ℕ} (weight : ℕ) {m m′ : Matrices} {from to from′ to′ : List ℕ} {count count′ : ℕ} (room : EdgeRoom words n x y m from to count)
     (space : Space words n m′) (added : Added (64 * words) x y (m .seen) from to count (m′ .seen) from′ to′ count′)
     (weak : Stored (x * (64 * words) + y) (eqb weight 1) (m .weak) (m′ .weak))
-    (way : WayAdded words n x y (m .reach) (m .paths) (m′ .reach) (m′ .paths)) where
+    (way : WayAdded words n x y (m .reach) (m .paths) (m′ .reach) (m′ .into) (m′ .paths)) where
   within : y < 64 * words
   within = column (room .space .seen-rows) (room .second)
 
@@ -143,6 +148,7 @@ module _ {words n x y : ℕ} (weight : ℕ) {m m′ : Matrices} {from to from′
         seen-pairs = seen-added within added (s .seen-pairs);
         weights = weights-added words n x y weight (room .first) within weak graph (s .weights);
         reached = way .reached graph weight (s .reached) (s .in-paths);
+        transposed = way .transposed;
         in-paths = way .in-paths graph weight (s .reached) (s .in-paths);
       }
 
@@ -182,6 +188,7 @@ module _ {words n : ℕ} {graph : List Need} {m : Matrices} {from to : List ℕ}
               from-room = omega (arith, shows-count);
               to-room = omega (arith, shows-count);
             };
+        transposed = s .transposed;
         first = first;
         second = second;
       }

@@ -1,7 +1,8 @@
 -- What each item reaches, and the record of paths, as bit matrices with a row for each of n items. A graph is a list of needs, the one added last in
 -- front, as in rules' Paths. Assumes nothing.
 use Prim.Native.Nat.{ℕ, _+_, _*_, _≤_, _<_}
-use mathlib.Core.Bool.{Bool, not, _&&_, _||_}
+use mathlib.Core.Path.{_≡_}
+use mathlib.Core.Bool.{Bool, false, not, _&&_, _||_}
 use mathlib.Core.List.{List, _∷_}
 use lib.Dec.{eqb}
 use lib.ListN.{length}
@@ -65,11 +66,24 @@ pub record WayEntered (words n x y : ℕ) (reach paths reach′ paths′ : List 
   pub reached : RowsJoined words n (joins (cell words reach) x (onward (cell words reach) y)) reach reach′
   pub entered : RowsJoined words n (entersEither (cell words reach) x y) paths paths′
 
--- What adding the need x to y gives: where the matrices showed a graph, they show that graph with the need.
-pub record WayAdded (words n x y : ℕ) (reach paths reach′ paths′ : List ℕ) : Type 0 where
+-- Matrices with rows of one word, each the transpose of the other: `into` has which items reach each item. They hold numbers below n alone.
+pub record Transposed (n : ℕ) (reach into : List ℕ) : Type 0 where
+  pub cells : (a b : ℕ) → a < n → b < n → cell 1 into b a ≡ cell 1 reach a b
+  pub reach-below : (a b : ℕ) → a < n → n ≤ b → b < 64 → cell 1 reach a b ≡ false
+  pub into-below : (a b : ℕ) → a < n → n ≤ b → b < 64 → cell 1 into a b ≡ false
+
+-- What adding the need x to y asks for. Where rows have more words, `into` is working space.
+pub record AddRoom (words n x y : ℕ) (reach into paths : List ℕ) : Type 0 where
+  pub way : WayRoom words n x y reach paths
+  pub into-rows : Rows words n into
+  pub transposed : words ≡ 1 → Transposed n reach into
+
+-- What it gives: where the matrices showed a graph, they show that graph with the need.
+pub record WayAdded (words n x y : ℕ) (reach paths reach′ into′ paths′ : List ℕ) : Type 0 where
   pub reached : (graph : List Need) (weight : ℕ) → Holds words n (canReach graph) reach → Holds words n (inPaths graph) paths
       → Holds words n (canReach (needRow x y weight ∷ graph)) reach′
   pub in-paths : (graph : List Need) (weight : ℕ) → Holds words n (canReach graph) reach → Holds words n (inPaths graph) paths
       → Holds words n (inPaths (needRow x y weight ∷ graph)) paths′
+  pub transposed : words ≡ 1 → Transposed n reach′ into′
   pub reach-rest : Rest words n reach reach′
   pub paths-rest : Rest words n paths paths′

@@ -16,7 +16,7 @@ use Rattle.lists.specs.Bits.{bitAt, Inserted, Removed}
 use Rattle.graph.specs.Rows.{cell, Holds, RowJoined}
 use Rattle.graph.specs.RowLaws.{column, row-within, place, rows-sized, rows-none, rows-more, rows-same, row-same, row-left, row-one}
 use Rattle.graph.specs.Reach.{joins, onward, entersOwn, entersOthers, entersEither}
-use Rattle.graph.specs.Reach.{OwnRoom, RowRoom, RowEntered, RowsEntered, WayRoom, WayEntered, WayAdded}
+use Rattle.graph.specs.Reach.{OwnRoom, RowRoom, RowEntered, RowsEntered, WayRoom, WayEntered, Transposed, AddRoom, WayAdded}
 
 -- Tests.
 or-within : (p q : Bool) → (q ≡ true → p ≡ true) → (p || q) ≡ p
@@ -181,8 +181,12 @@ module _ {words n x y : ℕ} {reach paths : List ℕ} (r : WayRoom words n x y r
       own b h =
           ap (λ (t : Bool). eqb b y || (not (eqb b x) && t)) (set b h) ∙ own-set (eqb b y) (eqb b x) (cell words reach y b)
 
-  -- Adding the need x to y: nothing where P(x) holds y, since x reaches it then, else the way from x to y is entered.
-  pub way-old : {t : Bool} → t ≡ cell words paths x y → t ≡ true → WayAdded words n x y reach paths reach paths
+-- Adding the need x to y: nothing where P(x) holds y, since x reaches it then, else the way from x to y is entered.
+module _ {words n x y : ℕ} {reach into paths : List ℕ} (add : AddRoom words n x y reach into paths) where
+  r : WayRoom words n x y reach paths
+  r = add .way
+
+  pub way-old : {t : Bool} → t ≡ cell words paths x y → t ≡ true → WayAdded words n x y reach paths reach into paths
   unfolding inPaths
   way-old e s =
       record {
@@ -190,6 +194,7 @@ module _ {words n x y : ℕ} {reach paths : List ℕ} (r : WayRoom words n x y r
             λ graph weight g h a b below within.
             g a b below within ∙ sym (reached-already graph x y weight (canReach-complete graph (inPaths-sound graph (held graph h))) a b);
         in-paths = λ graph weight g h a b below within. h a b below within ∙ sym (rw (held graph h) (or-false (inPaths graph a b)));
+        transposed = add .transposed;
         reach-rest = λ a b below within. refl;
         paths-rest = λ a b below within. refl;
       }
@@ -197,10 +202,10 @@ module _ {words n x y : ℕ} {reach paths : List ℕ} (r : WayRoom words n x y r
       held : (graph : List Need) → Holds words n (inPaths graph) paths → inPaths graph x y ≡ true
       held graph h = sym (e ∙ h x y (r .first) (column (r .paths-rows) (r .second))) ∙ s
 
-  pub way-new : {t : Bool} {reach′ paths′ : List ℕ} → t ≡ cell words paths x y → t ≡ false → WayEntered words n x y reach paths reach′ paths′
-      → WayAdded words n x y reach paths reach′ paths′
+  pub way-new : {t : Bool} {reach′ into′ paths′ : List ℕ} → t ≡ cell words paths x y → t ≡ false → WayEntered words n x y reach paths reach′ paths′
+      → (words ≡ 1 → Transposed n reach′ into′) → WayAdded words n x y reach paths reach′ into′ paths′
   unfolding inPaths canReach joins onward entersOwn entersOthers entersEither
-  way-new e s w =
+  way-new e s w turned =
       record {
         reached =
             λ graph weight g h a b below within.
@@ -215,6 +220,7 @@ module _ {words n x y : ℕ} {reach paths : List ℕ} (r : WayRoom words n x y r
             (ap (λ (t : Bool). eqb b y && not (eqb a y) && (eqb a x || t)) (to-x graph g a below)))
             ∙ rw (sym (e ∙ h x y (r .first) (column (r .paths-rows) (r .second))) ∙ s)
             (ap (λ (t : Bool). inPaths graph a b || t) (sym (enters-before graph x y weight a b)));
+        transposed = turned;
         reach-rest = w .reached .rest;
         paths-rest = w .entered .rest;
       }

@@ -1,53 +1,35 @@
 -- Laws of bit matrices with rows of one word. Assumes nothing.
-use Prim.Native.Nat.{ℕ, _+_, _*_, _-_, _/_, _%_, _^_, _<_}
+use Prim.Native.Nat.{ℕ, _+_, _*_, _-_, _/_, _%_, _^_, _≤_, _<_}
 use native.Mathlib.Omega.{arith}
 use native.Mathlib.Nat.{one-mul}
 use mathlib.Core.Path.{_≡_, refl, sym, ap, ap₂, _∙_}
-use mathlib.Core.Bool.{Bool, true, false, not, _&&_, _||_, or-assoc, or-false, and-comm, and-false}
+use mathlib.Core.Bool.{Bool, true, false, not, _&&_, _||_, or-assoc, or-comm, or-false, and-assoc, and-comm, and-true, and-false, and-not-self}
 use mathlib.Core.List.{List}
-use lib.Dec.{eqb}
+use lib.Dec.{eqb, ltb}
 use lib.ListN.{length, getD, set}
 use lib.Pow.{shl-exact}
-use lib.Bits.{bitAnd, bitOr}
-use borrow.Author.Tests.{eqb-true, eqb-false, eq-eqb, ne-eqb}
-use Rattle.laws.specs.Lists.{Tested, holds, fails, tested}
+use lib.Bits.{bitAnd, bitOr, and-le-l}
+use borrow.Author.Tests.{eqb-true, eqb-false, eq-eqb, ne-eqb, ltb-true, ltb-false}
+use Rattle.laws.specs.Lists.{Tested, holds, fails, tested, both, false≢true}
 use Rattle.lists.specs.Bits.{bit, bitAt}
 use Rattle.lists.specs.ArrayLaws.{after-set}
-use Rattle.lists.specs.BitLaws.{bit-shift, bit-or, bit-and, bit-zero, bit-power, bit-not, bit-with, bit-without}
-use Rattle.graph.specs.Rows.{cell, RowJoined, RowsJoined}
-use Rattle.graph.specs.RowLaws.{column, rows-none, rows-more, row-same}
+use Rattle.lists.specs.BitLaws.{bit-or, bit-none, bit-power, bit-less, bit-with, bit-without}
+use Rattle.graph.specs.Rows.{cleared, cell, RowJoined, RowsJoined}
+use Rattle.graph.specs.RowLaws.{column, rows-cleared}
 use Rattle.graph.specs.ReachLaws.{own-set}
-use Rattle.graph.specs.Reach.{joins, onward, entersOwn, entersOthers, entersEither, WayRoom, WayEntered}
-use Rattle.graph.specs.Words.{WordJoined, WordsJoined}
+use Rattle.graph.specs.Reach.{joins, onward, entersOwn, entersOthers, entersEither, WayEntered, Transposed, AddRoom}
+use Rattle.graph.specs.Words.{SetRoom, SetJoined}
 
 -- Tests.
-reached-again : (p e s t r : Bool) → (p || (e && r) || ((s || (e && t)) && r)) ≡ (p || ((e || s) && r))
-reached-again true e s t r = refl
-reached-again false true s t true = refl
-reached-again false true s t false = and-false (s || t)
-reached-again false false s t r = rw (or-false s)
+joined-there : (o w : Bool) → (o || ((true && not true) && w) || w) ≡ (o || ((true && not (false && true)) && w))
+joined-there true w = refl
+joined-there false w = refl
 
-entered-again : (e s t d f q : Bool)
-    → ((e && (d || q)) || (not f && ((s || (e && t)) && d))) ≡ ((e && (d || q)) || (d && not f && (e || s)))
-entered-again true s t true f q = refl
-entered-again true s t false f q = rw (and-false (s || t), and-false (not f))
-entered-again false s t true true q = refl
-entered-again false true t true false q = refl
-entered-again false false t true false q = refl
-entered-again false s t false f q = rw (and-false (s || false), and-false (not f))
-
--- A mask: the largest word times a digit holds all numbers or none.
-pub bit-mask : (word i j : ℕ) → j < 64 → bit ((2 ^ 64 - 1) * (word / 2 ^ i % 2)) j ≡ bit word i
-bit-mask word i j h = go (tested (eqb (word / 2 ^ i % 2) 1))
-  where
-    go : Tested (eqb (word / 2 ^ i % 2) 1) → bit ((2 ^ 64 - 1) * (word / 2 ^ i % 2)) j ≡ bit word i
-    go (holds e) =
-        let all : (2 ^ 64 - 1) * (word / 2 ^ i % 2) ≡ 2 ^ 64 - 1 - 0 = omega (arith, eqb-true (word / 2 ^ i % 2) 1 e) in
-        ap (λ (w : ℕ). bit w j) all ∙ bit-not 64 0 j (omega arith) h ∙ ap not (bit-zero j) ∙ sym e ∙ bit-shift word i
-    go (fails e) =
-        let d = eqb-false (word / 2 ^ i % 2) 1 e in
-        let none : (2 ^ 64 - 1) * (word / 2 ^ i % 2) ≡ 0 = omega arith in
-        ap (λ (w : ℕ). bit w j) none ∙ bit-zero j ∙ sym e ∙ bit-shift word i
+both-entered : (p f s d e q : Bool) → ((p || ((f && s) && d)) || (e && q)) ≡ (p || ((e && q) || (d && f && s)))
+both-entered p f s d e q =
+    or-assoc p ((f && s) && d) (e && q)
+    ∙ ap (λ (t : Bool). p || t)
+    (or-comm ((f && s) && d) (e && q) ∙ ap (λ (t : Bool). (e && q) || t) (and-comm (f && s) d ∙ sym (and-assoc d f s)))
 
 -- A word that holds one number.
 pub bit-one : (i j : ℕ) → i < 64 → bit (1 * 2 ^ i % 2 ^ 64) j ≡ eqb j i
@@ -77,120 +59,190 @@ word-joined matrix a w within =
           (λ d. rw (ne-eqb c a d, or-false));
     }
 
--- A set where a row of a matrix holds x, by a mask.
-module _ (matrix : List ℕ) (a x held : ℕ) (column : x < 64) (masks : (j : ℕ) → j < 64 → bit held j ≡ bit (getD matrix a 0) x) where
-  held-set : (word : ℕ) {old new : List ℕ} → RowJoined 1 a (bit (bitAnd word held)) old new
-      → RowJoined 1 a (λ b. cell 1 matrix a x && bit word b) old new
-  held-set word j =
-      row-same (λ b. cell 1 matrix a x && bit word b)
-      (λ b h.
-      bit-and word held b
-      ∙ and-comm (bit word b) (bit held b)
-      ∙ ap (λ (t : Bool). t && bit word b) (masks b h ∙ sym (cell-one matrix a x column)))
-      j
+-- A set without a number that it holds, as the code computes it, is a lesser word.
+pub set-without : (rows i : ℕ) → rows < 2 ^ 64 → i < 64 → bit rows i ≡ true
+    → (bitAnd rows (2 ^ 64 - 1 - 1 * 2 ^ i % 2 ^ 64) < rows)
+    × ((j : ℕ) → j < 64 → bit (bitAnd rows (2 ^ 64 - 1 - 1 * 2 ^ i % 2 ^ 64)) j ≡ (not (eqb j i) && bit rows j))
+set-without rows i most h held =
+    let rest = bitAnd rows (2 ^ 64 - 1 - 1 * 2 ^ i % 2 ^ 64) in (
+      bit-less 64 rest rows i (omega (arith, and-le-l rows (2 ^ 64 - 1 - 1 * 2 ^ i % 2 ^ 64))) most h held (λ j g. bit-without rows i j h g),
+      λ j g. bit-without rows i j h g,
+    )
 
-  pub words-held : (row entry : ℕ) {paths reach′ paths′ : List ℕ} → RowJoined 1 a (bit (bitAnd row held)) matrix reach′
-      → RowJoined 1 a (bit (bitAnd entry held)) paths paths′ → WordJoined a x (bit row) (bit entry) matrix paths reach′ paths′
-  words-held row entry j k = record { reached = held-set row j; entered = held-set entry k }
+-- In the midst of joining the rows of a set with a word: those in `left` are still to be joined.
+pub record JoiningSet (rows left : ℕ) (set : ℕ → Bool) (old new : List ℕ) : Type 0 where
+  pub within : (a : ℕ) → a < 64 → bit left a ≡ true → bit rows a ≡ true
+  pub cells : (a b : ℕ) → a < 64 → b < 64 → cell 1 new a b ≡ (cell 1 old a b || ((bit rows a && not (bit left a)) && set b))
+  pub rest : (a b : ℕ) → 64 ≤ a → b < 64 → cell 1 new a b ≡ cell 1 old a b
 
--- One row more. Whether it is joined depends on that row alone, which is as it was.
-pub words-start : {x : ℕ} {row entry : ℕ → Bool} {reach paths : List ℕ} → WordsJoined 0 x row entry reach paths reach paths
-words-start = record { reached = rows-none; entered = rows-none }
+pub joining-set : {rows : ℕ} {set : ℕ → Bool} {matrix : List ℕ} → JoiningSet rows rows set matrix matrix
+joining-set {rows} = record { within = λ a h e. e; cells = λ a b h g. rw (and-not-self (bit rows a), or-false); rest = λ a b h g. refl }
 
-pub words-turn : {i x : ℕ} {row entry : ℕ → Bool} {reach paths now-reach now-paths new-reach new-paths : List ℕ} → x < 64
-    → WordsJoined i x row entry reach paths now-reach now-paths → WordJoined i x row entry now-reach now-paths new-reach new-paths
-    → WordsJoined (i + 1) x row entry reach paths new-reach new-paths
-words-turn {i} {x} {row} {entry} {reach} within j k =
-    let same = j .reached .rest i x (omega arith) within in
+module _ {rows left : ℕ} {set : ℕ → Bool} {old now : List ℕ} (j : JoiningSet rows left set old now) where
+  pub joined-set : left ≡ 0 → SetJoined (bit rows) set old now
+  joined-set e =
+      record {
+        cells = λ a b h g. j .cells a b h g ∙ rw (bit-none left a e, and-true (bit rows a));
+        rest = j .rest;
+      }
+
+  pub join-more : {a left′ : ℕ} {new : List ℕ} → a < 64 → bit left a ≡ true
+      → ((c : ℕ) → c < 64 → bit left′ c ≡ (not (eqb c a) && bit left c)) → RowJoined 1 a set now new → JoiningSet rows left′ set old new
+  join-more {a} {left′} {new} h held bits k =
+      record {
+        within = λ c g e. j .within c g (both {a = not (eqb c a)} (sym (bits c g) ∙ e) .1);
+        cells = λ c b g f. k .cells c b f ∙ go c b g f (tested (eqb c a));
+        rest = λ c b g f. k .cells c b f ∙ rw (ne-eqb c a (λ e. omega arith), or-false) (j .rest c b g f);
+      }
+    where
+      go : (c b : ℕ) → c < 64 → b < 64 → Tested (eqb c a)
+          → (cell 1 now c b || (eqb c a && set b)) ≡ (cell 1 old c b || ((bit rows c && not (bit left′ c)) && set b))
+      go c b g f (holds e) =
+          let there : bit left c ≡ true = rw (eqb-true c a e) held in
+          rw (j .cells c b g f, bits c g, e, there, j .within c g there) (joined-there (cell 1 old c b) (set b))
+      go c b g f (fails e) = rw (bits c g, e, or-false) (j .cells c b g f)
+
+-- The rows of a set are there where it holds numbers below n alone.
+below-room : {n : ℕ} (rows : ℕ) (matrix : List ℕ) → n ≤ length matrix → ((a : ℕ) → n ≤ a → a < 64 → bit rows a ≡ false) → SetRoom rows matrix
+below-room {n} rows matrix size none a h e = go (tested (ltb a n))
+  where
+    go : Tested (ltb a n) → a < length matrix
+    go (holds t) = omega (arith, ltb-true a n t)
+    go (fails t) = absurd (false≢true (sym (none a (ltb-false a n t) h) ∙ e))
+
+-- Cleared matrices are the transpose of each other.
+pub transposed-cleared : (n : ℕ) (reach into : List ℕ) → n ≤ 64 → Transposed n (cleared (n * 1) reach) (cleared (n * 1) into)
+transposed-cleared n reach into most =
     record {
-      reached = rows-more (j .reached) (row-same (λ b. cell 1 reach i x && row b) (λ b h. rw same) (k .reached));
-      entered = rows-more (j .entered) (row-same (λ b. cell 1 reach i x && entry b) (λ b h. rw same) (k .entered));
-    }
-
--- One row put back.
-put-back : {n y : ℕ} {sets : ℕ → ℕ → Bool} {old new : List ℕ} → y < n → y < length new → RowsJoined 1 n sets old new
-    → RowsJoined 1 n (λ a b. not (eqb a y) && sets a b) old (set new y (getD old y 0))
-put-back {n} {y} {sets} {old} {new} below within j =
-    record {
-      rows =
-          λ a b h g.
-          after-one (λ t. t ≡ (cell 1 old a b || (not (eqb a y) && sets a b))) new y (getD old y 0) within a b g
-          (λ e. rw (e, eq-eqb y y refl, or-false, cell-one old y b g))
-          (λ d. rw (ne-eqb a y d) (j .rows a b h g));
-      rest =
-          λ a b h g.
-          after-one (λ t. t ≡ cell 1 old a b) new y (getD old y 0) within a b g (λ e. absurd (omega arith)) (λ d. j .rest a b h g);
+      cells = λ a b h g. rows-cleared 1 n into b a g (omega arith) ∙ sym (rows-cleared 1 n reach a b h (omega arith));
+      reach-below = λ a b h g f. rows-cleared 1 n reach a b h f;
+      into-below = λ a b h g f. rows-cleared 1 n into a b h f;
     }
 
 -- The way from x to y: the words as the code computes them, and what entering them gives.
-module _ {n x y : ℕ} {reach paths : List ℕ} (r : WayRoom 1 n x y reach paths) where
-  row-bits : (b : ℕ) → b < 64 → bit (bitOr (getD reach y 0) (1 * 2 ^ y % 2 ^ 64)) b ≡ onward (cell 1 reach) y b
+module _ {n x y : ℕ} {reach into paths : List ℕ} (r : AddRoom 1 n x y reach into paths) where
+  abbrev before : ℕ
+  before = bitOr (getD into x 0) (1 * 2 ^ x % 2 ^ 64)
+
+  abbrev beyond : ℕ
+  beyond = bitOr (getD reach y 0) (1 * 2 ^ y % 2 ^ 64)
+
+  turned : Transposed n reach into
+  turned = r .transposed refl
+
+  column-x : x < 64
+  column-x = column (r .way .reach-rows) (r .way .first)
+
+  column-y : y < 64
+  column-y = column (r .way .reach-rows) (r .way .second)
+
+  few : n ≤ 64
+  few = r .into-rows .numbers
+
+  before-bits : (a : ℕ) → a < 64 → bit before a ≡ (eqb a x || cell 1 into x a)
+  before-bits a h = bit-with (getD into x 0) x a column-x ∙ rw (cell-one into x a h)
+
+  -- x and what reaches it
+  arriving : (a : ℕ) → a < n → bit before a ≡ (eqb a x || cell 1 reach a x)
+  arriving a h = before-bits a (omega (arith, few)) ∙ rw (turned .cells a x h (r .way .first))
+
+  none-before : (a : ℕ) → n ≤ a → a < 64 → bit before a ≡ false
+  none-before a h g = before-bits a g ∙ rw (ne-eqb a x (λ e. omega (arith, r .way .first)), turned .into-below x a (r .way .first) h g)
+
+  beyond-bits : (b : ℕ) → b < 64 → bit beyond b ≡ onward (cell 1 reach) y b
   unfolding onward
-  row-bits b h = bit-with (getD reach y 0) y b (column (r .reach-rows) (r .second)) ∙ rw (cell-one reach y b h)
+  beyond-bits b h = bit-with (getD reach y 0) y b column-y ∙ rw (cell-one reach y b h)
+
+  none-beyond : (b : ℕ) → n ≤ b → b < 64 → bit beyond b ≡ false
+  unfolding onward
+  none-beyond b h g = beyond-bits b g ∙ rw (ne-eqb b y (λ e. omega (arith, r .way .second)), turned .reach-below y b (r .way .second) h g)
 
   own-bits : (b : ℕ) → b < 64
-      → bit (bitOr (bitAnd (bitOr (getD reach y 0) (1 * 2 ^ y % 2 ^ 64)) (2 ^ 64 - 1 - 1 * 2 ^ x % 2 ^ 64)) (1 * 2 ^ y % 2 ^ 64)) b
-      ≡ entersOwn (cell 1 reach) x y b
+      → bit (bitOr (bitAnd beyond (2 ^ 64 - 1 - 1 * 2 ^ x % 2 ^ 64)) (1 * 2 ^ y % 2 ^ 64)) b ≡ entersOwn (cell 1 reach) x y b
   unfolding onward entersOwn
   own-bits b h =
-      bit-with (bitAnd (bitOr (getD reach y 0) (1 * 2 ^ y % 2 ^ 64)) (2 ^ 64 - 1 - 1 * 2 ^ x % 2 ^ 64)) y b (column (r .reach-rows) (r .second))
-      ∙ ap (λ (t : Bool). eqb b y || t)
-      (bit-without (bitOr (getD reach y 0) (1 * 2 ^ y % 2 ^ 64)) x b (column (r .reach-rows) (r .first)) h
-      ∙ ap (λ (t : Bool). not (eqb b x) && t) (row-bits b h))
+      bit-with (bitAnd beyond (2 ^ 64 - 1 - 1 * 2 ^ x % 2 ^ 64)) y b column-y
+      ∙ ap (λ (t : Bool). eqb b y || t) (bit-without beyond x b column-x h ∙ ap (λ (t : Bool). not (eqb b x) && t) (beyond-bits b h))
       ∙ own-set (eqb b y) (eqb b x) (cell 1 reach y b)
 
-  pub words-entered : {reach₁ paths₁ reach₂ paths₂ : List ℕ} → length paths₂ ≡ length paths
-      → RowJoined 1 x (bit (bitOr (getD reach y 0) (1 * 2 ^ y % 2 ^ 64))) reach reach₁
-      → RowJoined 1 x
-      (bit (bitOr (bitAnd (bitOr (getD reach y 0) (1 * 2 ^ y % 2 ^ 64)) (2 ^ 64 - 1 - 1 * 2 ^ x % 2 ^ 64)) (1 * 2 ^ y % 2 ^ 64))) paths paths₁
-      → WordsJoined n x (bit (bitOr (getD reach y 0) (1 * 2 ^ y % 2 ^ 64))) (bit (1 * 2 ^ y % 2 ^ 64)) reach₁ paths₁ reach₂ paths₂
-      → WayEntered 1 n x y reach paths reach₂ (set paths₂ y (getD paths₁ y 0))
-  unfolding joins entersOwn entersOthers entersEither
-  words-entered {reach₁} {paths₁} {reach₂} {paths₂} size j k w =
-      record {
-        reached =
-            record {
-              rows =
-                  λ a b below within.
-                  w .reached .rows a b below within
-                  ∙ ap₂ _||_ (first-reached a b within) (ap₂ _&&_ (first-reached a x column-x) (row-bits b within))
-                  ∙ reached-again (cell 1 reach a b) (eqb a x) (cell 1 reach a x) (onward (cell 1 reach) y x) (onward (cell 1 reach) y b);
-              rest =
-                  λ a b below within.
-                  w .reached .rest a b below within
-                  ∙ first-reached a b within
-                  ∙ rw (ne-eqb a x (λ same. omega (arith, r .first))) (or-false (cell 1 reach a b));
-            };
-        entered =
-            record {
-              rows =
-                  λ a b below within.
-                  back .rows a b below within
-                  ∙ ap₂ _||_ (first-entered a b within)
-                  (ap (λ (t : Bool). not (eqb a y) && t) (ap₂ _&&_ (first-reached a x column-x) (bit-one y b column-y)))
-                  ∙ or-assoc (cell 1 paths a b) (eqb a x && entersOwn (cell 1 reach) x y b)
-                  (not (eqb a y) && ((cell 1 reach a x || (eqb a x && onward (cell 1 reach) y x)) && eqb b y))
-                  ∙ ap (λ (t : Bool). cell 1 paths a b || t)
-                  (entered-again (eqb a x) (cell 1 reach a x) (onward (cell 1 reach) y x) (eqb b y) (eqb a y) (cell 1 reach y b && not (eqb b x)));
-              rest =
-                  λ a b below within.
-                  back .rest a b below within
-                  ∙ first-entered a b within
-                  ∙ rw (ne-eqb a x (λ same. omega (arith, r .first))) (or-false (cell 1 paths a b));
-            };
-      }
-    where
-      column-x : x < 64
-      column-x = column (r .reach-rows) (r .first)
+  -- the rows that are joined are there
+  pub reach-room : SetRoom before reach
+  reach-room = below-room before reach (omega (arith, r .way .reach-rows .size)) none-before
 
-      column-y : y < 64
-      column-y = column (r .reach-rows) (r .second)
+  pub into-room : SetRoom beyond into
+  into-room = below-room beyond into (omega (arith, r .into-rows .size)) none-beyond
 
-      first-reached : (a b : ℕ) → b < 64 → cell 1 reach₁ a b ≡ (cell 1 reach a b || (eqb a x && onward (cell 1 reach) y b))
-      first-reached a b h = j .cells a b h ∙ ap (λ (t : Bool). cell 1 reach a b || (eqb a x && t)) (row-bits b h)
+  pub paths-room : SetRoom (bitAnd before (2 ^ 64 - 1 - 1 * 2 ^ y % 2 ^ 64)) paths
+  paths-room =
+      below-room (bitAnd before (2 ^ 64 - 1 - 1 * 2 ^ y % 2 ^ 64)) paths (omega (arith, r .way .paths-rows .size))
+      (λ a h g. bit-without before y a column-y g ∙ rw (none-before a h g, and-false (not (eqb a y))))
 
-      first-entered : (a b : ℕ) → b < 64 → cell 1 paths₁ a b ≡ (cell 1 paths a b || (eqb a x && entersOwn (cell 1 reach) x y b))
-      first-entered a b h = k .cells a b h ∙ ap (λ (t : Bool). cell 1 paths a b || (eqb a x && t)) (own-bits b h)
+  module _ {reach′ into′ paths₁ paths′ : List ℕ} (j : SetJoined (bit before) (bit beyond) reach reach′)
+      (k : SetJoined (bit beyond) (bit before) into into′)
+      (m : SetJoined (bit (bitAnd before (2 ^ 64 - 1 - 1 * 2 ^ y % 2 ^ 64))) (bit (1 * 2 ^ y % 2 ^ 64)) paths paths₁)
+      (o : RowJoined 1 x (bit (bitOr (bitAnd beyond (2 ^ 64 - 1 - 1 * 2 ^ x % 2 ^ 64)) (1 * 2 ^ y % 2 ^ 64))) paths₁ paths′) where
+    pub words-transposed : Transposed n reach′ into′
+    words-transposed =
+        record {
+          cells =
+              λ a b h g.
+              k .cells b a (omega (arith, few)) (omega (arith, few))
+              ∙ ap₂ _||_ (turned .cells a b h g) (and-comm (bit beyond b) (bit before a))
+              ∙ sym (j .cells a b (omega (arith, few)) (omega (arith, few)));
+          reach-below =
+              λ a b h g f.
+              j .cells a b (omega (arith, few)) f ∙ rw (turned .reach-below a b h g f, none-beyond b g f) (and-false (bit before a));
+          into-below =
+              λ a b h g f.
+              k .cells a b (omega (arith, few)) f ∙ rw (turned .into-below a b h g f, none-before b g f) (and-false (bit beyond a));
+        }
 
-      back : RowsJoined 1 n (λ a b. not (eqb a y) && (cell 1 reach₁ a x && bit (1 * 2 ^ y % 2 ^ 64) b)) paths₁ (set paths₂ y (getD paths₁ y 0))
-      back = put-back (r .second) (omega (arith, r .second, r .paths-rows .size)) (w .entered)
+    -- the record with y entered into the rows of what arrives at x
+    others-rest : (a b : ℕ) → n ≤ a → b < 64 → cell 1 paths₁ a b ≡ cell 1 paths a b
+    others-rest a b h g = go (tested (ltb a 64))
+      where
+        go : Tested (ltb a 64) → cell 1 paths₁ a b ≡ cell 1 paths a b
+        go (holds t) =
+            m .cells a b (ltb-true a 64 t) g
+            ∙ rw (bit-without before y a column-y (ltb-true a 64 t), none-before a h (ltb-true a 64 t), and-false (not (eqb a y)), or-false)
+        go (fails t) = m .rest a b (ltb-false a 64 t) g
+
+    reach-rest : (a b : ℕ) → n ≤ a → b < 64 → cell 1 reach′ a b ≡ cell 1 reach a b
+    reach-rest a b h g = go (tested (ltb a 64))
+      where
+        go : Tested (ltb a 64) → cell 1 reach′ a b ≡ cell 1 reach a b
+        go (holds t) = j .cells a b (ltb-true a 64 t) g ∙ rw (none-before a h (ltb-true a 64 t), or-false)
+        go (fails t) = j .rest a b (ltb-false a 64 t) g
+
+    pub words-entered : WayEntered 1 n x y reach paths reach′ paths′
+    unfolding joins entersOthers entersEither
+    words-entered =
+        record {
+          reached =
+              record {
+                rows =
+                    λ a b below within.
+                    j .cells a b (omega (arith, few)) within
+                    ∙ ap (λ (t : Bool). cell 1 reach a b || t) (ap₂ _&&_ (arriving a below) (beyond-bits b within));
+                rest = reach-rest;
+              };
+          entered =
+              record {
+                rows =
+                    λ a b below within.
+                    o .cells a b within
+                    ∙ ap₂ _||_
+                    (m .cells a b (omega (arith, few)) within
+                    ∙ ap (λ (t : Bool). cell 1 paths a b || t)
+                    (ap₂ _&&_
+                    (bit-without before y a column-y (omega (arith, few)) ∙ ap (λ (t : Bool). not (eqb a y) && t) (arriving a below))
+                    (bit-one y b column-y)))
+                    (ap (λ (t : Bool). eqb a x && t) (own-bits b within))
+                    ∙ both-entered (cell 1 paths a b) (not (eqb a y)) (eqb a x || cell 1 reach a x) (eqb b y) (eqb a x)
+                    (entersOwn (cell 1 reach) x y b);
+                rest =
+                    λ a b below within.
+                    o .cells a b within
+                    ∙ rw (ne-eqb a x (λ same. omega (arith, r .way .first)), or-false) (others-rest a b below within);
+              };
+        }

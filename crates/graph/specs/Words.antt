@@ -1,26 +1,17 @@
 -- Bit matrices with rows of one word. Assumes nothing.
 use Prim.Native.Nat.{ℕ, _≤_, _<_}
-use mathlib.Core.Bool.{Bool, _&&_}
+use mathlib.Core.Path.{_≡_}
+use mathlib.Core.Bool.{Bool, true, _&&_, _||_}
 use mathlib.Core.List.{List}
 use lib.ListN.{length}
-use Rattle.graph.specs.Rows.{cell, RowJoined, RowsJoined}
+use Rattle.lists.specs.Bits.{bit}
+use Rattle.graph.specs.Rows.{cell}
 
--- What joining row a of both matrices asks for, and what it gives: where row a of `reach` holds x, `row` joins it and `entry` the record's row.
-pub record WordRoom (a x : ℕ) (reach paths : List ℕ) : Type 0 where
-  pub column : x < 64
-  pub reach-row : a < length reach
-  pub paths-row : a < length paths
+-- The rows that a set holds are there.
+abbrev pub SetRoom : ℕ → List ℕ → Type 0
+SetRoom set matrix = (a : ℕ) → a < 64 → bit set a ≡ true → a < length matrix
 
-pub record WordJoined (a x : ℕ) (row entry : ℕ → Bool) (reach paths reach′ paths′ : List ℕ) : Type 0 where
-  pub reached : RowJoined 1 a (λ b. cell 1 reach a x && row b) reach reach′
-  pub entered : RowJoined 1 a (λ b. cell 1 reach a x && entry b) paths paths′
-
--- The same of each of the first n rows.
-pub record WordsRoom (n x : ℕ) (reach paths : List ℕ) : Type 0 where
-  pub column : x < 64
-  pub reach-rows : n ≤ length reach
-  pub paths-rows : n ≤ length paths
-
-pub record WordsJoined (n x : ℕ) (row entry : ℕ → Bool) (reach paths reach′ paths′ : List ℕ) : Type 0 where
-  pub reached : RowsJoined 1 n (λ a b. cell 1 reach a x && row b) reach reach′
-  pub entered : RowsJoined 1 n (λ a b. cell 1 reach a x && entry b) paths paths′
+-- A matrix after each row of a set was joined with another set; there are no rows from 64 on in a set.
+pub record SetJoined (rows set : ℕ → Bool) (old new : List ℕ) : Type 0 where
+  pub cells : (a b : ℕ) → a < 64 → b < 64 → cell 1 new a b ≡ (cell 1 old a b || (rows a && set b))
+  pub rest : (a b : ℕ) → 64 ≤ a → b < 64 → cell 1 new a b ≡ cell 1 old a b

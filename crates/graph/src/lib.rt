@@ -13,25 +13,29 @@ mod word;
 use lists::bits;
 use lists::pairs;
 
-// Clears the matrices for n items: the graph without needs, with no pair yet.
+// Clears the matrices for n items: the graph without needs, with no pair yet. `into` is used, and cleared, only where rows have one word.
 pub fn clear(
     seen: &mut [u64],
     weak: &mut [u64],
     reach: &mut [u64],
+    into: &mut [u64],
     paths: &mut [u64],
     words: usize,
     n: usize,
 )
-    requires { ⌜ Space words n (matrices (now seen) (now weak) (now reach) (now paths)) ⌝ }
+    requires { ⌜ Space words n (matrices (now seen) (now weak) (now reach) (now into) (now paths)) ⌝ }
     ensures { λ _. ⌜
-        Cleared words n (matrices (now (seen .entry)) (now (weak .entry)) (now (reach .entry)) (now (paths .entry)))
-        (matrices (now (seen .exit)) (now (weak .exit)) (now (reach .exit)) (now (paths .exit))) ⌝ }
+        Cleared words n (matrices (now (seen .entry)) (now (weak .entry)) (now (reach .entry)) (now (into .entry)) (now (paths .entry)))
+        (matrices (now (seen .exit)) (now (weak .exit)) (now (reach .exit)) (now (into .exit)) (now (paths .exit))) ⌝ }
 {
     let size = n * words;
     rows::clear_words(seen, size);
     rows::clear_words(weak, size);
     rows::clear_words(reach, size);
     rows::clear_words(paths, size);
+    if words == 1 {
+        rows::clear_words(into, size);
+    }
 }
 
 // Notes the weight of the pair (x, y): whether it is Maybe.
@@ -52,6 +56,7 @@ pub fn add_edge(
     seen: &mut [u64],
     weak: &mut [u64],
     reach: &mut [u64],
+    into: &mut [u64],
     paths: &mut [u64],
     from: &mut [u16],
     to: &mut [u16],
@@ -62,16 +67,18 @@ pub fn add_edge(
     y: u16,
     weight: u8,
 ) -> usize
-    requires { ⌜ EdgeRoom words n x y (matrices (now seen) (now weak) (now reach) (now paths)) (now from) (now to) count ⌝ }
+    requires { ⌜ EdgeRoom words n x y (matrices (now seen) (now weak) (now reach) (now into) (now paths)) (now from) (now to) count ⌝ }
     ensures { λ r. ⌜
         EdgeAdded words n x y weight
-        (matrices (now (seen .entry)) (now (weak .entry)) (now (reach .entry)) (now (paths .entry))) (now (from .entry)) (now (to .entry)) count
-        (matrices (now (seen .exit)) (now (weak .exit)) (now (reach .exit)) (now (paths .exit))) (now (from .exit)) (now (to .exit)) r ⌝ }
+        (matrices (now (seen .entry)) (now (weak .entry)) (now (reach .entry)) (now (into .entry)) (now (paths .entry))) (now (from .entry))
+        (now (to .entry)) count
+        (matrices (now (seen .exit)) (now (weak .exit)) (now (reach .exit)) (now (into .exit)) (now (paths .exit))) (now (from .exit))
+        (now (to .exit)) r ⌝ }
 {
     let a = x as usize;
     let b = y as usize;
     let more = pairs::add(seen, from, to, count, 64 * words, x, y);
     set_weight(weak, words, a, b, weight);
-    transitives::insert_transitives(paths, reach, words, n, a, b);
+    transitives::insert_transitives(paths, reach, into, words, n, a, b);
     more
 }

@@ -6,7 +6,7 @@ ghost use lib.Dec.{eqb};
 ghost use lib.ListN.{length};
 ghost use Rattle.lists.specs.Bits.{bitAt};
 ghost use Rattle.graph.specs.Rows.{Place, cell, RowJoined};
-ghost use Rattle.graph.specs.Reach.{OwnRoom, RowRoom, RowEntered, RowsEntered, WayRoom, WayEntered, WayAdded};
+ghost use Rattle.graph.specs.Reach.{OwnRoom, RowRoom, RowEntered, RowsEntered, WayRoom, WayEntered, AddRoom, WayAdded};
 use super::rows;
 use super::word;
 use lists::bits;
@@ -100,22 +100,25 @@ fn enter_rows(paths: &mut [u64], reach: &mut [u64], words: usize, n: usize, x: u
 }
 
 // Adds the need x to y to what each item reaches and to the record of paths. Where P(x) holds y, x reaches it, and there is no more to add.
+// Where rows have one word, `into` has what reaches each item; else it is left alone.
 pub fn insert_transitives(
     paths: &mut [u64],
     reach: &mut [u64],
+    into: &mut [u64],
     words: usize,
     n: usize,
     x: usize,
     y: usize,
 )
-    requires { ⌜ WayRoom words n x y (now reach) (now paths) ⌝ }
-    ensures { λ _. ⌜ WayAdded words n x y (now (reach .entry)) (now (paths .entry)) (now (reach .exit)) (now (paths .exit)) ⌝ }
+    requires { ⌜ AddRoom words n x y (now reach) (now into) (now paths) ⌝ }
+    ensures { λ _. ⌜
+        WayAdded words n x y (now (reach .entry)) (now (paths .entry)) (now (reach .exit)) (now (into .exit)) (now (paths .exit)) ⌝ }
 {
     if rows::holds(paths, words, x, y) {
         return;
     }
     if words == 1 {
-        word::enter_words(paths, reach, n, x, y);
+        word::enter_words(paths, reach, into, x, y);
     } else {
         enter_rows(paths, reach, words, n, x, y);
     }

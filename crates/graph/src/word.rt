@@ -1,18 +1,28 @@
-// Matrices with rows of one word, for 64 items or fewer: the way of a need entered into them without a branch for each row.
+// Matrices with rows of one word, for 64 items or fewer: the way of a need entered into the rows that it changes.
 ghost use Prim.Native.Nat.{ℕ, _<_};
 ghost use mathlib.Core.Path.{_≡_};
+ghost use mathlib.Core.Bool.{true, not, _&&_};
+ghost use lib.Dec.{eqb};
 ghost use lib.ListN.{length};
 ghost use Rattle.lists.specs.Bits.{bit};
 ghost use Rattle.graph.specs.Rows.{RowJoined};
-ghost use Rattle.graph.specs.Reach.{WayRoom, WayEntered};
-ghost use Rattle.graph.specs.Words.{WordRoom, WordJoined, WordsRoom, WordsJoined};
+ghost use Rattle.graph.specs.Reach.{AddRoom, WayEntered, Transposed};
+ghost use Rattle.graph.specs.Words.{SetRoom, SetJoined};
 
-// All numbers below 64, where a word holds i, else none.
-fn mask(word: u64, i: usize) -> u64
-    requires { ⌜ i < 64 ⌝ }
-    ensures { λ r. ⌜ ((j : ℕ) → j < 64 → bit r j ≡ bit word i) ⌝ }
+// The least number that a set holds. That it is the least, nothing relies on.
+fn some_of(set: u64) -> usize
+    requires { ⌜ 0 < set ⌝ }
+    ensures { λ r. ⌜ (r < 64) × (bit set r ≡ true) ⌝ }
 {
-    u64::MAX * ((word >> i) % 2)
+    u64::trailing_zeros(set) as usize
+}
+
+// The set without i, which it holds.
+fn without(set: u64, i: usize) -> u64
+    requires { ⌜ (i < 64) × (bit set i ≡ true) ⌝ }
+    ensures { λ r. ⌜ (r < set) × ((j : ℕ) → j < 64 → bit r j ≡ (not (eqb j i) && bit set j)) ⌝ }
+{
+    set & !(1u64 << i)
 }
 
 // Joins row a of a matrix with a word.
@@ -23,40 +33,32 @@ fn join_word(matrix: &mut [u64], a: usize, word: u64)
     matrix[a] = matrix[a] | word;
 }
 
-// Where row a of `reach` holds x: joins it with `row`, and the record's row of a with `entry`.
-fn join_if_holds(paths: &mut [u64], reach: &mut [u64], a: usize, x: usize, row: u64, entry: u64)
-    requires { ⌜ WordRoom a x (now reach) (now paths) ⌝ }
-    ensures { λ _. ⌜
-        WordJoined a x (bit row) (bit entry) (now (reach .entry)) (now (paths .entry)) (now (reach .exit)) (now (paths .exit)) ⌝ }
+// Joins each row that a set holds with a word.
+fn join_set(matrix: &mut [u64], set: u64, word: u64)
+    requires { ⌜ SetRoom set (now matrix) ⌝ }
+    ensures { λ _. ⌜ SetJoined (bit set) (bit word) (now (matrix .entry)) (now (matrix .exit)) ⌝ }
 {
-    let held = mask(reach[a], x);
-    join_word(reach, a, row & held);
-    join_word(paths, a, entry & held);
-}
-
-// The same for each of n items.
-fn join_holding(paths: &mut [u64], reach: &mut [u64], n: usize, x: usize, row: u64, entry: u64)
-    requires { ⌜ WordsRoom n x (now reach) (now paths) ⌝ }
-    ensures { λ _. ⌜
-        WordsJoined n x (bit row) (bit entry) (now (reach .entry)) (now (paths .entry)) (now (reach .exit)) (now (paths .exit)) ⌝ }
-{
-    let mut a = 0;
-    while a < n {
-        join_if_holds(paths, reach, a, x, row, entry);
-        a += 1;
+    let mut left = set;
+    while left != 0 {
+        let a = some_of(left);
+        left = without(left, a);
+        join_word(matrix, a, word);
     }
 }
 
-// Enters the way from x to y into both matrices. The rows of x are joined first, as x may not reach itself; the record's row of y is then put back.
-pub fn enter_words(paths: &mut [u64], reach: &mut [u64], n: usize, x: usize, y: usize)
-    requires { ⌜ WayRoom 1 n x y (now reach) (now paths) ⌝ }
-    ensures { λ _. ⌜ WayEntered 1 n x y (now (reach .entry)) (now (paths .entry)) (now (reach .exit)) (now (paths .exit)) ⌝ }
+// Enters the way from x to y into the matrices: it starts at x and at what reaches x, and leads to y and on to what y reaches.
+pub fn enter_words(paths: &mut [u64], reach: &mut [u64], into: &mut [u64], x: usize, y: usize)
+    requires { ⌜ ((n : ℕ) × AddRoom 1 n x y (now reach) (now into) (now paths)) ⌝ }
+    ensures { λ _. ⌜ ((n : ℕ) → AddRoom 1 n x y (now (reach .entry)) (now (into .entry)) (now (paths .entry))
+        → WayEntered 1 n x y (now (reach .entry)) (now (paths .entry)) (now (reach .exit)) (now (paths .exit))
+        × Transposed n (now (reach .exit)) (now (into .exit))) ⌝ }
 {
-    let entry = 1u64 << y;
-    let row = reach[y] | entry;
-    join_word(reach, x, row);
-    join_word(paths, x, row & !(1u64 << x) | entry);
-    let own = paths[y];
-    join_holding(paths, reach, n, x, row, entry);
-    paths[y] = own;
+    let first = 1u64 << x;
+    let last = 1u64 << y;
+    let before = into[x] | first;
+    let beyond = reach[y] | last;
+    join_set(reach, before, beyond);
+    join_set(into, beyond, before);
+    join_set(paths, before & !last, last);
+    join_word(paths, x, beyond & !first | last);
 }

@@ -1,4 +1,5 @@
 pub mod Walking
+pub mod AskedLaws
 pub mod WalkingLaws
 pub mod LongLaws
 pub mod Sorts

@@ -3,17 +3,19 @@ use Prim.Native.Nat.{ℕ, _+_, _*_, _/_, _≤_}
 use mathlib.Core.Path.{_≡_}
 use mathlib.Core.List.{List}
 use lib.ListN.{length}
-use Rattle.rules.specs.Project.{Project, itemLimit}
-use Rattle.rules.specs.Items.{Group, firstList}
+use Rattle.rules.specs.Project.{Project, Need, itemLimit}
+use Rattle.rules.specs.Walk.{run}
+use Rattle.rules.specs.Items.{numbering, Group, groupOf, firstList, itemWalk, itemStart}
 use Rattle.rules.specs.Calls.{itemListLimit}
 use Rattle.laws.specs.Accepted.{Accepted}
-use Rattle.laws.specs.Splits.{size, Giving}
+use Rattle.laws.specs.Splits.{size, WellFormed, Giving}
 use Rattle.split.specs.declared.Split.{Split}
 use Rattle.split.specs.FirstLists.{Listable}
 use Rattle.graph.specs.Rows.{rowWords}
 use Rattle.stmt.specs.Walks.{Laid}
 use Rattle.layout.specs.Numbers.{ItemsNumbered}
-use Rattle.layout.specs.Needs.{OwnNeeds}
+use Rattle.owners.specs.Owners.{NeedsAlong}
+use Rattle.layout.specs.Needs.{needsAmong, OwnNeeds}
 
 -- What it asks for: the group laid out, its starts, and arrays for the walk's state.
 pub record Walkable (g : Group) (to heads-out next-out from heads-in next-in paths weak kinds low high starts : List ℕ) (s : Split) (words : ℕ)
@@ -33,6 +35,29 @@ pub record GroupWalkable (p : Project) (needs next-need : List ℕ) (first-need 
   pub giving : Giving p modules
   pub needs-own : OwnNeeds p modules needs next-need first-need
   pub numbered : ItemsNumbered p modules rows kinds low high starts numbers s
+
+-- A group with other needs.
+abbrev pub withNeeds : Group → List Need → Group
+withNeeds g needs = record { kinds = g .kinds; ranges = g .ranges; needs = needs }
+
+-- the group of modules, with no more needs than these
+abbrev pub askedGroup : Project → List ℕ → List Need → Group
+askedGroup p modules own = withNeeds (groupOf p modules) (needsAmong (numbering p modules) own)
+
+-- Along the chain from `head` stand the needs that the walk of modules' items asks for: with these alone it stops as it does with all.
+pub record AskedNeeds (p : Project) (modules section next : List ℕ) (head : ℕ) : Type 0 where
+  pub own : List Need
+  pub along : NeedsAlong section next head own
+  pub few : length own ≤ length (p .needs)
+  pub formed : WellFormed (askedGroup p modules own)
+  pub same : (limit left made : ℕ)
+      → run (itemWalk (askedGroup p modules own)) limit left made (itemStart (askedGroup p modules own))
+      ≡ run (itemWalk (groupOf p modules)) limit left made (itemStart (groupOf p modules))
+
+-- Where that chain begins: where that of all needs does, or nowhere for uninjected items of one module.
+pub data Asked (first-need modules : ℕ) (s : Split) : ℕ → Type 0 where
+  all-needs : Asked first-need modules s first-need
+  no-need : modules ≡ 1 → s .uninjected ≡ s .count → Asked first-need modules s 0
 
 -- The words of a row for n items.
 abbrev pub wordsFor : ℕ → ℕ

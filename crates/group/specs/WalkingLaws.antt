@@ -7,15 +7,16 @@ use mathlib.Core.List.{List, []}
 use lib.ListN.{length, take}
 use Rattle.rules.specs.Lists.{any, elem}
 use Rattle.rules.specs.Project.{Project, Need, itemLimit}
-use Rattle.rules.specs.Items.{firstList, groupOf, pathHolds, weightOf, Group, hasMoved, itemList, placedOf, itemStart}
+use Rattle.rules.specs.Items.{starts as startsOf, numbers as numbersIn, firstList, groupOf, kindOf, pathHolds, weightOf, Group, hasMoved, itemList, placedOf, itemStart}
 use Rattle.laws.specs.Counting.{below-length}
-use Rattle.laws.specs.Splits.{size, length-kinds, length-numbering, wellFormed, giving-below}
+use Rattle.laws.specs.Splits.{size, length-kinds, length-numbering, giving-below}
 use Rattle.laws.specs.FirstList.{firstList-most, firstList-limit}
 use Rattle.laws.specs.ItemWalk.{walked-start}
 use Rattle.lists.specs.Bits.{bitAt}
 use Rattle.lists.specs.Stacks.{stack}
 use Rattle.split.specs.declared.Split.{Split}
-use Rattle.split.specs.FirstLists.{FirstListed}
+use Rattle.split.specs.Shown.{Kinds, Ranges}
+use Rattle.split.specs.FirstLists.{Listable, FirstListed}
 use Rattle.split.specs.CallerLaws.{listable}
 use Rattle.graph.specs.Rows.{rowWords, Rows, cleared}
 use Rattle.graph.specs.RowLaws.{rows-cleared}
@@ -24,7 +25,7 @@ use Rattle.stmt.specs.declared.walk.ItemWalk.{ItemWalk}
 use Rattle.stmt.specs.Walks.{Laid, Row, Table, movedOf, Walking}
 use Rattle.layout.specs.Needs.{needsAmong}
 use Rattle.layout.specs.Layout.{LayRoom, NeedsLaid}
-use Rattle.group.specs.Walking.{Walkable, GroupWalkable, wordsFor, Sized, FirstRoom, WalkScratch}
+use Rattle.group.specs.Walking.{Walkable, GroupWalkable, withNeeds, askedGroup, AskedNeeds, wordsFor, Sized, FirstRoom, WalkScratch}
 
 -- A cleared row has no bit, and a cleared table no pair.
 row-none : (n : ℕ) (placed : List ℕ) → n ≤ 64 * rowWords → length placed ≡ rowWords → {placed′ : List ℕ} → placed′ ≡ cleared rowWords placed
@@ -114,13 +115,6 @@ module _ {p : Project} {needs next-need : List ℕ} {first-need : ℕ} {modules 
   pub items-are : s .count ≡ size (groupOf p modules)
   items-are = h .numbered .splits .count-is ∙ sym (length-kinds p modules)
 
-  abbrev own : List Need
-  own = h .needs-own .own
-
-  group-needs : needsAmong (take (s .count) rows) own ≡ groupOf p modules .needs
-  unfolding groupOf
-  group-needs = ap (λ (l : List ℕ). needsAmong l own) (h .numbered .splits .numbered) ∙ h .needs-own .among
-
   own-rows : (matrix : List ℕ) → Sized (length (p .items)) matrix → Rows (wordsFor (s .count)) (s .count) matrix
   own-rows matrix e = matrix-rows (s .count) (length (p .items)) matrix items-few (h .accepted .items-most) e
 
@@ -132,9 +126,28 @@ module _ {p : Project} {needs next-need : List ℕ} {first-need : ℕ} {modules 
       (omega (arith, r .items-most, length-numbering p (h .giving .once))))
       (r .size)
 
-  module _ {seen weak reach paths moved placed from to next-out next-in heads-out heads-in «open» order list : List ℕ}
+  -- the kinds and ranges, of the group with other needs
+  kinds-kept : {other : List Need} → Kinds (withNeeds (groupOf p modules) other) kinds
+  unfolding kindOf
+  kinds-kept = let k = h .numbered .splits .kinds-shown in record { room = k .room; each = k .each }
+
+  ranges-kept : {other : List Need} → Ranges (withNeeds (groupOf p modules) other) low high
+  ranges-kept =
+      let k = h .numbered .splits .ranges-shown in
+      record {
+        low-size = k .low-size;
+        high-size = k .high-size;
+        each = λ x b. record { start = k .each x b .start; end = k .each x b .end };
+      }
+
+  -- the needs that the walk asks for
+  module _ {head : ℕ} (k : AskedNeeds p modules needs next-need head)
+      {seen weak reach paths moved placed from to next-out next-in heads-out heads-in «open» order list : List ℕ}
       (a : WalkScratch (length (p .items)) (length (p .needs)) seen weak reach paths moved placed from to next-out next-in heads-out heads-in «open» order list) where
-    pub lay-room : LayRoom (wordsFor (s .count)) (s .count) own (matrices seen weak reach paths) from to heads-out next-out heads-in next-in
+    abbrev group : Group
+    group = askedGroup p modules (k .own)
+
+    pub lay-room : LayRoom (wordsFor (s .count)) (s .count) (k .own) (matrices seen weak reach moved paths) from to heads-out next-out heads-in next-in
     lay-room =
         record {
           space =
@@ -143,53 +156,64 @@ module _ {p : Project} {needs next-need : List ℕ} {first-need : ℕ} {modules 
                 seen-most = a .seen-most;
                 weak-rows = own-rows weak (a .weak-size);
                 reach-rows = own-rows reach (a .reach-size);
+                into-rows = own-rows moved (a .moved-size);
                 paths-rows = own-rows paths (a .paths-size);
               };
           most = items-most;
-          needs-most = omega (arith, h .needs-own .few, h .accepted .needs-most);
-          from-size = omega (arith, h .needs-own .few, a .from-size);
-          to-size = omega (arith, h .needs-own .few, a .to-size);
+          needs-most = omega (arith, k .few, h .accepted .needs-most);
+          from-size = omega (arith, k .few, a .from-size);
+          to-size = omega (arith, k .few, a .to-size);
           heads-out-size = a .heads-out-size;
-          next-out-size = omega (arith, h .needs-own .few, a .next-out-size);
+          next-out-size = omega (arith, k .few, a .next-out-size);
           heads-in-size = a .heads-in-size;
-          next-in-size = omega (arith, h .needs-own .few, a .next-in-size);
+          next-in-size = omega (arith, k .few, a .next-in-size);
         }
 
-    -- the needs laid out
+    -- laid out
     module _ {to′ heads-out′ next-out′ from′ heads-in′ next-in′ paths′ weak′ : List ℕ}
-        (l : NeedsLaid (s .count) (needsAmong (take (s .count) rows) own) to′ heads-out′ next-out′ from′ heads-in′ next-in′ paths′ weak′
+        (l : NeedsLaid (s .count) (needsAmong (take (s .count) rows) (k .own)) to′ heads-out′ next-out′ from′ heads-in′ next-in′ paths′ weak′
         (64 * wordsFor (s .count))) where
-      group-laid : Laid (groupOf p modules) to′ heads-out′ next-out′ from′ heads-in′ next-in′ paths′ weak′ kinds low high (64 * wordsFor (s .count))
+      group-laid : Laid group to′ heads-out′ next-out′ from′ heads-in′ next-in′ paths′ weak′ kinds low high (64 * wordsFor (s .count))
       unfolding pathHolds weightOf isMaybe
       group-laid =
-          let k : NeedsLaid (size (groupOf p modules)) (groupOf p modules .needs) to′ heads-out′ next-out′ from′ heads-in′ next-in′ paths′ weak′
-          (64 * wordsFor (s .count)) =
+          let j : NeedsLaid (size group) (group .needs) to′ heads-out′ next-out′ from′ heads-in′ next-in′ paths′ weak′ (64 * wordsFor (s .count)) =
           subst
-          (λ (n : ℕ). NeedsLaid n (groupOf p modules .needs) to′ heads-out′ next-out′ from′ heads-in′ next-in′ paths′ weak′ (64 * wordsFor (s .count)))
+          (λ (n : ℕ). NeedsLaid n (group .needs) to′ heads-out′ next-out′ from′ heads-in′ next-in′ paths′ weak′ (64 * wordsFor (s .count)))
           items-are
           (subst
-          (λ (d : List Need). NeedsLaid (s .count) d to′ heads-out′ next-out′ from′ heads-in′ next-in′ paths′ weak′ (64 * wordsFor (s .count)))
-          group-needs l) in
+          (λ (r : List ℕ). NeedsLaid (s .count) (needsAmong r (k .own)) to′ heads-out′ next-out′ from′ heads-in′ next-in′ paths′ weak′ (64 * wordsFor (s .count)))
+          (h .numbered .splits .numbered) l) in
           record {
-            formed = wellFormed p modules (h .giving);
-            dependencies = k .dependencies;
-            dependants = k .dependants;
-            paths-shown = k .paths-shown;
-            weak-shown = k .weak-shown;
-            kinds-shown = h .numbered .splits .kinds-shown;
-            ranges-shown = h .numbered .splits .ranges-shown;
+            formed = k .formed;
+            dependencies = j .dependencies;
+            dependants = j .dependants;
+            paths-shown = j .paths-shown;
+            weak-shown = j .weak-shown;
+            kinds-shown = kinds-kept;
+            ranges-shown = ranges-kept;
           }
 
-      pub walkable : {part : List ℕ} → part ≡ take (length modules) starts
-          → Walkable (groupOf p modules) to′ heads-out′ next-out′ from′ heads-in′ next-in′ paths′ weak′ kinds low high part s (wordsFor (s .count))
-          placed moved «open» order list
-      walkable e =
+      pub walkable : {moved′ part : List ℕ} → length moved′ ≡ length moved → part ≡ take (length modules) starts
+          → Walkable group to′ heads-out′ next-out′ from′ heads-in′ next-in′ paths′ weak′ kinds low high part s (wordsFor (s .count))
+          placed moved′ «open» order list
+      unfolding firstList startsOf kindOf numbersIn
+      walkable same e =
+          let j : Listable (groupOf p modules) low high _ s list =
+          listable (h .accepted) (h .giving) (h .numbered .splits) e (first-fits (a .list-size)) in
           record {
             laid = group-laid;
-            listable = listable (h .accepted) (h .giving) (h .numbered .splits) e (first-fits (a .list-size));
+            listable =
+                record {
+                  ranges-shown = ranges-kept;
+                  starts-shown = j .starts-shown;
+                  starts-below = j .starts-below;
+                  injected-behind = j .injected-behind;
+                  most = j .most;
+                  room = j .room;
+                };
             count-is = items-are;
             placed-size = a .placed-size;
-            moved-size = rw (← items-are) (own-rows moved (a .moved-size) .size);
+            moved-size = rw (same, ← items-are) (own-rows moved (a .moved-size) .size);
             open-size = a .open-size;
             order-size = a .order-size;
             first-most = omega (arith, firstList-limit (h .accepted) (h .giving));

@@ -9,7 +9,7 @@ ghost use Rattle.rules.specs.Items.{Group, groupOf, ItemState, itemWalk, itemSt
 ghost use Rattle.laws.specs.Splits.{size};
 ghost use Rattle.rules.specs.Calls.{itemListLimit};
 ghost use Rattle.stmt.specs.Walks.{Walking, Ended};
-ghost use Rattle.group.specs.Walking.{Walkable, GroupWalkable, WalkScratch};
+ghost use Rattle.group.specs.Walking.{Walkable, GroupWalkable, Asked, WalkScratch};
 use graph::rows;
 use layout::lay_needs;
 use split::Split;
@@ -244,8 +244,21 @@ fn walk_items(
     )
 }
 
-// Lays out the needs of modules whose items are numbered, and walks the items. `first_need` begins the chain of the needs. Where the walk has
-// finished, `order` holds the numbers in their order; else it is left free, and so are all other slices.
+// Where the chain of the needs to lay out begins: nowhere for uninjected items of one module, whose walk asks for no need.
+fn first_asked(first_need: u16, modules: usize, s: Split) -> u16
+    ensures { λ r. ⌜ Asked «first_need» modules s r ⌝ }
+{
+    if modules == 1 {
+        if s.uninjected == s.count {
+            return 0;
+        }
+    }
+    first_need
+}
+
+// Lays out the needs that the walk of modules' numbered items asks for, and walks the items. `first_need` begins the chain of all their needs. Where
+// the walk has finished, `order` holds the numbers in their order; else it is left free, and so are all other slices. No pair moves before the walk:
+// until then `moved` is lent for what reaches each item.
 pub fn walk_group(
     needs: &[u8],
     next_need: &[u16],
@@ -293,10 +306,12 @@ pub fn walk_group(
 {
     let n = s.count;
     let words = (n + 63) / 64;
+    let k = modules.len();
+    let first = first_asked(first_need, k, s);
     lay_needs(
         needs,
         next_need,
-        first_need,
+        first,
         rows,
         n,
         numbers,
@@ -304,6 +319,7 @@ pub fn walk_group(
         seen,
         weak,
         reach,
+        moved,
         paths,
         from,
         to,
@@ -312,7 +328,6 @@ pub fn walk_group(
         heads_in,
         next_in,
     );
-    let k = modules.len();
     walk_items(
         to,
         heads_out,

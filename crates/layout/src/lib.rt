@@ -16,8 +16,8 @@ use graph::neighbours;
 use needs::add_needs;
 
 // Lays out the needs along a chain whose two ends are among the first n rows, by their numbers: dependencies and dependants as chains, paths and
-// weights as tables with rows of `words` words. `head` begins the chain: an entry is one more than a need's row, and 0 ends it. `seen` and `reach`,
-// and of the other slices what is in no row, chain or place in use, are left free.
+// weights as tables with rows of `words` words. `head` begins the chain: an entry is one more than a need's row, and 0 ends it. `seen`, `reach`
+// and `into`, and of the other slices what is in no row, chain or place in use, are left free.
 pub fn lay_needs(
     needs: &[u8],
     next: &[u16],
@@ -29,6 +29,7 @@ pub fn lay_needs(
     seen: &mut [u64],
     weak: &mut [u64],
     reach: &mut [u64],
+    into: &mut [u64],
     paths: &mut [u64],
     from: &mut [u16],
     to: &mut [u16],
@@ -39,15 +40,15 @@ pub fn lay_needs(
 )
     requires { ⌜ Numbers (now rows) n (now numbers) ⌝ }
     requires { ⌜ ((own : List Need) × NeedsAlong (now needs) (now next) head own
-        × LayRoom words n own (matrices (now seen) (now weak) (now reach) (now paths)) (now from) (now to) (now «heads_out») (now «next_out»)
+        × LayRoom words n own (matrices (now seen) (now weak) (now reach) (now into) (now paths)) (now from) (now to) (now «heads_out») (now «next_out»)
         (now «heads_in») (now «next_in»)) ⌝ }
     ensures { λ _. ⌜ ((own : List Need) → NeedsAlong (now (needs .entry)) (now (next .entry)) head own
-        → LayRoom words n own (matrices (now (seen .entry)) (now (weak .entry)) (now (reach .entry)) (now (paths .entry))) (now (from .entry))
+        → LayRoom words n own (matrices (now (seen .entry)) (now (weak .entry)) (now (reach .entry)) (now (into .entry)) (now (paths .entry))) (now (from .entry))
         (now (to .entry)) (now («heads_out» .entry)) (now («next_out» .entry)) (now («heads_in» .entry)) (now («next_in» .entry))
         → NeedsLaid n (needsAmong (take n (now (rows .entry))) own) (now (to .exit)) (now («heads_out» .exit)) (now («next_out» .exit))
         (now (from .exit)) (now («heads_in» .exit)) (now («next_in» .exit)) (now (paths .exit)) (now (weak .exit)) (64 * words)) ⌝ }
 {
-    graph::clear(seen, weak, reach, paths, words, n);
+    graph::clear(seen, weak, reach, into, paths, words, n);
     let count = add_needs(
         needs,
         next,
@@ -59,9 +60,18 @@ pub fn lay_needs(
         seen,
         weak,
         reach,
+        into,
         paths,
         from,
         to,
     );
-    neighbours::links(from, to, count, heads_out, next_out, heads_in, next_in);
+    neighbours::links(
+        from,
+        to,
+        count,
+        &mut heads_out[..n],
+        next_out,
+        &mut heads_in[..n],
+        next_in,
+    );
 }

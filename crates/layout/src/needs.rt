@@ -22,18 +22,19 @@ fn add_need(
     seen: &mut [u64],
     weak: &mut [u64],
     reach: &mut [u64],
+    into: &mut [u64],
     paths: &mut [u64],
     from: &mut [u16],
     to: &mut [u16],
     count: usize,
 ) -> usize
     requires { ⌜ Numbers (now rows) n (now numbers) ⌝ }
-    requires { ⌜ ((graph : List Need) × NeedRoom words n graph (matrices (now seen) (now weak) (now reach) (now paths)) (now from) (now to) count) ⌝ }
+    requires { ⌜ ((graph : List Need) × NeedRoom words n graph (matrices (now seen) (now weak) (now reach) (now into) (now paths)) (now from) (now to) count) ⌝ }
     ensures { λ r. ⌜ ((graph : List Need)
-        → NeedRoom words n graph (matrices (now (seen .entry)) (now (weak .entry)) (now (reach .entry)) (now (paths .entry))) (now (from .entry))
+        → NeedRoom words n graph (matrices (now (seen .entry)) (now (weak .entry)) (now (reach .entry)) (now (into .entry)) (now (paths .entry))) (now (from .entry))
         (now (to .entry)) count
         → Shows words n (addNeed (take n (now (rows .entry))) graph (needRow a b weight))
-        (matrices (now (seen .exit)) (now (weak .exit)) (now (reach .exit)) (now (paths .exit))) (now (from .exit)) (now (to .exit)) r) ⌝ }
+        (matrices (now (seen .exit)) (now (weak .exit)) (now (reach .exit)) (now (into .exit)) (now (paths .exit))) (now (from .exit)) (now (to .exit)) r) ⌝ }
 {
     let x = numbers::number_in_group(rows, n, numbers, a);
     if x == 0 {
@@ -47,6 +48,7 @@ fn add_need(
         seen,
         weak,
         reach,
+        into,
         paths,
         from,
         to,
@@ -72,18 +74,19 @@ pub fn add_needs(
     seen: &mut [u64],
     weak: &mut [u64],
     reach: &mut [u64],
+    into: &mut [u64],
     paths: &mut [u64],
     from: &mut [u16],
     to: &mut [u16],
 ) -> usize
     requires { ⌜ Numbers (now rows) n (now numbers) ⌝ }
     requires { ⌜ ((own : List Need) × NeedsAlong (now needs) (now next) head own
-        × NeedsRoom words n own (matrices (now seen) (now weak) (now reach) (now paths)) (now from) (now to)) ⌝ }
+        × NeedsRoom words n own (matrices (now seen) (now weak) (now reach) (now into) (now paths)) (now from) (now to)) ⌝ }
     ensures { λ r. ⌜ ((own : List Need) → NeedsAlong (now (needs .entry)) (now (next .entry)) head own
-        → NeedsRoom words n own (matrices (now (seen .entry)) (now (weak .entry)) (now (reach .entry)) (now (paths .entry))) (now (from .entry))
+        → NeedsRoom words n own (matrices (now (seen .entry)) (now (weak .entry)) (now (reach .entry)) (now (into .entry)) (now (paths .entry))) (now (from .entry))
         (now (to .entry))
         → Shows words n (reverse (needsAmong (take n (now (rows .entry))) own))
-        (matrices (now (seen .exit)) (now (weak .exit)) (now (reach .exit)) (now (paths .exit))) (now (from .exit)) (now (to .exit)) r) ⌝ }
+        (matrices (now (seen .exit)) (now (weak .exit)) (now (reach .exit)) (now (into .exit)) (now (paths .exit))) (now (from .exit)) (now (to .exit)) r) ⌝ }
 {
     let mut count = 0;
     let mut e = head as usize;
@@ -103,6 +106,7 @@ pub fn add_needs(
             seen,
             weak,
             reach,
+            into,
             paths,
             from,
             to,

@@ -10,6 +10,7 @@ use lib.ListN.{length, getD, set, length-set}
 use lib.Seq.{getD-set-same, getD-set-other}
 use lib.Pow.{pow-pos, pow-lt, shl-exact}
 use lib.Bits.{bitAnd, bitOr, and-step, or-step}
+use lib.Count.{trailingZeros, under}
 use borrow.Author.Tests.{eqb-true, eqb-false, eq-eqb, ne-eqb}
 use Rattle.laws.specs.Lists.{Tested, holds, fails, tested}
 use Rattle.lists.specs.Bits.{bit, bitAt, Inserted, Removed}
@@ -115,6 +116,54 @@ bit-some (suc k) w h n = go (last-digit w) (λ m. bit-some k (w / 2) (omega (ari
 -- One that is 0 holds nothing.
 pub bit-none : (w j : ℕ) → w ≡ 0 → bit w j ≡ false
 bit-none w j e = ap (λ (x : ℕ). bit x j) e ∙ bit-zero j
+
+-- The place of its lowest digit that is set is a number that it holds.
+pub bit-trailing : (k w : ℕ) → 0 < w → w < 2 ^ k → (trailingZeros k w < k) × (bit w (trailingZeros k w) ≡ true)
+unfolding bit trailingZeros
+bit-trailing zero w h g = absurd (omega arith)
+bit-trailing (suc k) w h g = go (last-digit w) (λ e. bit-trailing k (w / 2) (omega arith) (omega (arith, pow-succ' 2 k)))
+  where
+    go : Digit (w % 2) → (w % 2 ≡ 0 → (trailingZeros k (w / 2) < k) × (bit (w / 2) (trailingZeros k (w / 2)) ≡ true))
+        → (under (w % 2) (trailingZeros k (w / 2)) < suc k) × (bit w (under (w % 2) (trailingZeros k (w / 2))) ≡ true)
+    go (one-digit e) f = rw e (omega arith, rw e refl)
+    go (zero-digit e) f = let r = f e in rw e (omega (arith, r .0), r .1)
+
+-- Digits whose tests agree are equal.
+same-digit : (x y : ℕ) → x < 2 → y < 2 → eqb x 1 ≡ eqb y 1 → x ≡ y
+same-digit x y h g s = go (tested (eqb x 1))
+  where
+    go : Tested (eqb x 1) → x ≡ y
+    go (holds e) = eqb-true x 1 e ∙ sym (eqb-true y 1 (sym s ∙ e))
+    go (fails e) = let no-x = eqb-false x 1 e in let no-y = eqb-false y 1 (sym s ∙ e) in omega arith
+
+-- Words with the same bits are equal.
+bit-same : (k v w : ℕ) → v < 2 ^ k → w < 2 ^ k → ((j : ℕ) → j < k → bit v j ≡ bit w j) → v ≡ w
+unfolding bit
+bit-same zero v w h g same = omega arith
+bit-same (suc k) v w h g same =
+    let digits : v % 2 ≡ w % 2 = same-digit (v % 2) (w % 2) (omega arith) (omega arith) (same 0 (omega arith)) in
+    let halves : v / 2 ≡ w / 2 =
+    bit-same k (v / 2) (w / 2) (omega (arith, pow-succ' 2 k)) (omega (arith, pow-succ' 2 k)) (λ j l. same (suc j) (omega arith)) in
+    omega arith
+
+-- A word is less without a number that it holds.
+pub bit-less : (k v w i : ℕ) → v < 2 ^ k → w < 2 ^ k → i < k → bit w i ≡ true → ((j : ℕ) → j < k → bit v j ≡ (not (eqb j i) && bit w j)) → v < w
+unfolding bit
+bit-less zero v w i h g l held bits = absurd (omega arith)
+bit-less (suc k) v w zero h g l held bits =
+    let last : w % 2 ≡ 1 = eqb-true (w % 2) 1 held in
+    let none = eqb-false (v % 2) 1 (bits 0 (omega arith)) in
+    let halves : v / 2 ≡ w / 2 =
+    bit-same k (v / 2) (w / 2) (omega (arith, pow-succ' 2 k)) (omega (arith, pow-succ' 2 k))
+    (λ j m. bits (suc j) (omega arith) ∙ ap (λ (t : Bool). not t && bit (w / 2) j) (eqb·suc-zero j)) in
+    omega arith
+bit-less (suc k) v w (suc i) h g l held bits =
+    let digits : v % 2 ≡ w % 2 =
+    same-digit (v % 2) (w % 2) (omega arith) (omega arith) (bits 0 (omega arith) ∙ ap (λ (t : Bool). not t && eqb (w % 2) 1) (eqb·zero-suc i)) in
+    let halves : v / 2 < w / 2 =
+    bit-less k (v / 2) (w / 2) i (omega (arith, pow-succ' 2 k)) (omega (arith, pow-succ' 2 k)) (omega arith) held
+    (λ j m. bits (suc j) (omega arith) ∙ ap (λ (t : Bool). not t && bit (w / 2) j) (eqb·suc-suc j i)) in
+    omega arith
 
 -- A word with one bit set, and with one bit cleared, as the code computes them.
 one-shifted : (i : ℕ) → i < 64 → 1 * 2 ^ i % 2 ^ 64 ≡ 2 ^ i

@@ -166,9 +166,9 @@ module _ {p : Project} {groups : List (List ℕ)} {items needs next heads bytes 
 
 module _ {p : Project} {groups : List (List ℕ)} {items needs owners next heads bytes : List ℕ} {importers givers allowance : ℕ} {before now : List ℕ} {t : Turn}
     (o : Owning p groups items needs owners next heads bytes importers givers allowance before now t) where
-  pub needs-chainable : {keys need-heads next-need : List ℕ} → length (p .needs) ≤ length keys → length (p .needs) ≤ length next-need
-      → Zeros (moduleLimit + 1) need-heads → NeedsChainable p groups items needs owners keys need-heads next-need
-  needs-chainable k n z = record { owned = o .owned; keys-room = k; next-room = n; heads-zero = z }
+  pub needs-chainable : {need-heads next-need : List ℕ} → length (p .needs) ≤ length next-need → Zeros (moduleLimit + 1) need-heads
+      → NeedsChainable p groups items needs owners need-heads next-need
+  needs-chainable n z = record { owned = o .owned; next-room = n; heads-zero = z }
 
   pub sorting : {next-need need-heads : List ℕ} → NeedsChained p groups needs next-need need-heads
       → Sorting p groups items needs next-need need-heads next heads bytes importers givers allowance before now t

@@ -224,17 +224,9 @@ fn sort_small(
         importers givers allowance before (now (out .entry)) first → length (p .items) ≤ 128 → length (p .needs) ≤ 512
         → Ordered (orderGroups p itemListLimit allowance [] groups [] 0) before (now (out .exit)) r) ⌝ }
 {
-    let mut keys = [0u16; 512];
     let mut next_need = [0u16; 512];
     let mut need_heads = [0u16; 65];
-    chain_needs(
-        items,
-        needs,
-        owners,
-        &mut keys,
-        &mut need_heads,
-        &mut next_need,
-    );
+    chain_needs(items, needs, owners, &mut need_heads, &mut next_need);
     let mut seen = [0u64; 256];
     let mut weak = [0u64; 256];
     let mut reach = [0u64; 256];
@@ -293,17 +285,9 @@ fn sort_large(
         importers givers allowance before (now (out .entry)) first → length (p .items) ≤ itemLimit → length (p .needs) ≤ needLimit
         → Ordered (orderGroups p itemListLimit allowance [] groups [] 0) before (now (out .exit)) r) ⌝ }
 {
-    let mut keys = [0u16; 2048];
     let mut next_need = [0u16; 2048];
     let mut need_heads = [0u16; 65];
-    chain_needs(
-        items,
-        needs,
-        owners,
-        &mut keys,
-        &mut need_heads,
-        &mut next_need,
-    );
+    chain_needs(items, needs, owners, &mut need_heads, &mut next_need);
     let mut seen = [0u64; 1024];
     let mut weak = [0u64; 1024];
     let mut reach = [0u64; 1024];
@@ -364,24 +348,38 @@ fn sort_rest(
 {
     let mut owners = [0u8; 64];
     note_owners(bytes, count, &mut owners);
-    if items.len() <= 256 {
-        if needs.len() <= 1536 {
-            return sort_small(
-                items,
-                needs,
-                &owners,
-                next,
-                heads,
-                bytes,
-                importers,
-                givers,
-                first,
-                out,
-                allowance,
-            );
-        }
+    // `sort_large` is called at two places, so that it is not merged into this function: the large arrays stay off the stack frame of small projects.
+    if 256 < items.len() {
+        return sort_large(
+            items,
+            needs,
+            &owners,
+            next,
+            heads,
+            bytes,
+            importers,
+            givers,
+            first,
+            out,
+            allowance,
+        );
     }
-    sort_large(
+    if 1536 < needs.len() {
+        return sort_large(
+            items,
+            needs,
+            &owners,
+            next,
+            heads,
+            bytes,
+            importers,
+            givers,
+            first,
+            out,
+            allowance,
+        );
+    }
+    sort_small(
         items,
         needs,
         &owners,

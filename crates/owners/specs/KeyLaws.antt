@@ -1,24 +1,24 @@
 -- Laws of needs chained by their keys. Assumes nothing.
-use Prim.Native.Nat.{ℕ, zero, suc, _+_, _*_, _≤_, _<_}
+use Prim.Native.Nat.{ℕ, zero, suc, _+_, _-_, _*_, _/_, _≤_, _<_}
 use native.Mathlib.Omega.{arith}
-use native.Mathlib.Numerals.{add-one}
 use mathlib.Core.Path.{_≡_, refl, sym, ap, ap₂, _∙_}
 use mathlib.Core.Bool.{Bool}
-use mathlib.Core.List.{List, [], _∷_, map, List·Memᴰ·tail}
+use mathlib.Core.List.{List, [], _∷_, map}
 use lib.Dec.{eqb}
-use lib.ListN.{length, getD, take, drop, set, length-map}
-use lib.Seq.{sets, length-sets}
+use lib.ListN.{length, getD, take, set, length-map}
+use lib.Seq.{take-all}
 use borrow.Author.Tests.{eqb-true, eqb-false, eq-eqb, ne-eqb}
 use Rattle.rules.specs.Lists.{consIf, keep, positionsFrom}
 use Rattle.rules.specs.Project.{Item, Need, Project, moduleLimit, itemRow, needRow, pairRows, needRows}
 use Rattle.rules.specs.Items.{noItem, itemAt}
-use Rattle.laws.specs.Lists.{_∈_, ∈-self, Tested, holds, fails, tested}
+use Rattle.laws.specs.Lists.{Tested, holds, fails, tested}
 use Rattle.laws.specs.Orders.{getD-∈, getD-map}
 use Rattle.laws.specs.Accepted.{NeedRow}
-use Rattle.lists.specs.Pairs.{Linkable, Linked}
-use Rattle.project.specs.RowLaws.{pairs-length, needs-at, needs-end}
-use Rattle.split.specs.SplitLaws.{pair-at, sets-take, sets-getD}
-use Rattle.owners.specs.Owners.{ownerIn, ownerOf, keyOf, needAt, NeedsAlong, Owned, ownerAt, RowRoom, bothOwn, KeysWritten, NeedsChainable, NeedsChained}
+use Rattle.lists.specs.Pairs.{Linked}
+use Rattle.lists.specs.ChainLaws.{link-none, link-turn}
+use Rattle.project.specs.RowLaws.{pairs-length}
+use Rattle.split.specs.SplitLaws.{pair-at}
+use Rattle.owners.specs.Owners.{ownerIn, ownerOf, keyOf, needAt, NeedsAlong, Owned, ownerAt, RowRoom, bothOwn, NeedsChainable, NeedsChained}
 use Rattle.owners.specs.OwnerLaws.{owner-most}
 
 -- Rows of 3 bytes: row i is at byte 3 * i.
@@ -34,19 +34,19 @@ need-at d (a ∷ b ∷ c ∷ l) (suc i) h =
     let g : 3 * suc i + 2 ≡ suc (suc (suc (3 * i + 2))) = omega arith in
     need-at d l i (omega arith) ∙ rw (g, f, e)
 
-needs-count : (l : List ℕ) → 3 * length (needRows l) ≤ length l
+needs-length : (l : List ℕ) → length (needRows l) ≡ length l / 3
 unfolding needRows
-needs-count [] = omega arith
-needs-count (a ∷ []) = omega arith
-needs-count (a ∷ b ∷ []) = omega arith
-needs-count (a ∷ b ∷ c ∷ l) = omega (arith, needs-count l)
+needs-length [] = refl
+needs-length (a ∷ []) = refl
+needs-length (a ∷ b ∷ []) = refl
+needs-length (a ∷ b ∷ c ∷ l) = omega (arith, needs-length l)
 
 -- How many rows a section has.
 pub items-fit : (items : List ℕ) (k : ℕ) → length items ≤ 2 * k → length (pairRows itemRow items) ≤ k
 items-fit items k h = omega (arith, pairs-length itemRow items)
 
 pub needs-fit : (needs : List ℕ) (k : ℕ) → length needs ≤ 3 * k → length (needRows needs) ≤ k
-needs-fit needs k h = omega (arith, needs-count needs)
+needs-fit needs k h = omega (arith, needs-length needs)
 
 -- What both own.
 pub both-same : (a b : ℕ) → a ≡ b → a ≡ bothOwn a b
@@ -102,61 +102,46 @@ module _ {p : Project} {groups : List (List ℕ)} {items needs owners : List ℕ
   unfolding ownerOf
   owner-read row h = ap (ownerIn groups) (module-read row h) ∙ sym (o .owners-shown .shown (getD items (2 * row) 0) (module-most row h))
 
--- Writing the keys row by row: with those of the rows from byte i on stored the array is as it is to be.
-pub record Keying (p : Project) (groups : List (List ℕ)) (needs keys₀ : List ℕ) (i k : ℕ) (keys : List ℕ) : Type 0 where
-  pub rows : (n : Need) → n ∈ needRows (drop i needs) → NeedRow (length (p .items)) n
-  pub same : sets keys k (map (keyOf p groups) (needRows (drop i needs))) ≡ sets keys₀ 0 (map (keyOf p groups) (p .needs))
-  pub count : k + length (needRows (drop i needs)) ≡ length (p .needs)
+-- the keys of all needs
+abbrev pub keysOf : Project → List (List ℕ) → List ℕ
+keysOf p groups = map (keyOf p groups) (p .needs)
 
--- the need at byte i
-abbrev needFrom : List ℕ → ℕ → Need
-needFrom needs i = needRow (getD needs i 0) (getD needs (i + 1) 0) (getD needs (i + 2) 0)
-
+-- The need in a row, and its key, from the arrays.
 module _ {p : Project} {groups : List (List ℕ)} {items needs owners : List ℕ} (o : Owned p groups items needs owners) where
-  pub keying-start : (keys : List ℕ) → Keying p groups needs keys 0 0 keys
-  keying-start keys =
-      record {
-        rows = λ n m. o .accepted .need-rows n (rw (o .needs-are) m);
-        same = ap (λ (l : List Need). sets keys 0 (map (keyOf p groups) l)) (sym (o .needs-are));
-        count = omega (arith, ap length (o .needs-are));
-      }
+  pub needs-total : length (p .needs) ≡ length needs / 3
+  needs-total = ap length (o .needs-are) ∙ needs-length needs
 
-  module _ {keys₀ : List ℕ} {i k : ℕ} {keys : List ℕ} (s : Keying p groups needs keys₀ i k keys) (more : i + 2 < length needs) where
-    row-here : NeedRow (length (p .items)) (needFrom needs i)
-    row-here = s .rows (needFrom needs i) (rw (needs-at needs i more) ∈-self)
+  need-read : (row : ℕ) → row < length (p .needs) → getD (p .needs) row (needRow 0 0 0) ≡ needAt needs row
+  need-read row h = rw (o .needs-are) (need-at (needRow 0 0 0) needs row (omega (arith, ap length (o .needs-are))))
 
-    pub dependant-room : RowRoom items owners (getD needs i 0)
-    dependant-room = row-room o (getD needs i 0) (row-here .dependant-below)
+  module _ {row : ℕ} (more : row < length needs / 3) where
+    here : row < length (p .needs)
+    here = omega (arith, needs-total)
 
-    pub dependency-room : RowRoom items owners (getD needs (i + 1) 0)
-    dependency-room = row-room o (getD needs (i + 1) 0) (row-here .dependency-below)
+    ends-below : NeedRow (length (p .items)) (needAt needs row)
+    ends-below = rw (need-read row here) at (o .accepted .need-rows (getD (p .needs) row (needRow 0 0 0)) (getD-∈ (p .needs) row (needRow 0 0 0) here))
 
-    pub key-room : k < length (p .needs)
-    key-room = omega (arith, s .count, ap length (needs-at needs i more))
+    pub dependant-room : RowRoom items owners (getD needs (3 * row) 0)
+    unfolding needAt
+    dependant-room = row-room o (getD needs (3 * row) 0) (ends-below .dependant-below)
 
-    pub keying-next : {a b x : ℕ} → a ≡ ownerAt items owners (getD needs i 0) → b ≡ ownerAt items owners (getD needs (i + 1) 0) → x ≡ bothOwn a b
-        → Keying p groups needs keys₀ (i + 3) (k + 1) (set keys k x)
-    keying-next {x = x} e f g =
-        let key : keyOf p groups (needFrom needs i) ≡ x =
-        key-both p groups (needFrom needs i)
-        ∙ ap₂ bothOwn (owner-read o (getD needs i 0) (row-here .dependant-below) ∙ sym e) (owner-read o (getD needs (i + 1) 0) (row-here .dependency-below) ∙ sym f)
-        ∙ sym g in
-        record {
-          rows = λ n m. s .rows n (rw (needs-at needs i more) (List·Memᴰ·tail m));
-          same =
-              rw add-one
-              (sym (ap (λ (l : List Need). sets keys k (map (keyOf p groups) l)) (needs-at needs i more)
-              ∙ ap (λ (x : ℕ). sets (set keys k x) (suc k) (map (keyOf p groups) (needRows (drop (i + 3) needs)))) key)
-              ∙ s .same);
-          count = omega (arith, s .count, ap length (needs-at needs i more));
-        }
+    pub dependency-room : RowRoom items owners (getD needs (3 * row + 1) 0)
+    unfolding needAt
+    dependency-room = row-room o (getD needs (3 * row + 1) 0) (ends-below .dependency-below)
 
-  pub keying-end : {keys₀ : List ℕ} {i k : ℕ} {keys : List ℕ} → Keying p groups needs keys₀ i k keys → length needs ≤ i + 2 → KeysWritten p groups keys₀ keys k
-  keying-end {i = i} {k = k} {keys = keys} s h =
-      record {
-        whole = sym (ap (λ (l : List Need). sets keys k (map (keyOf p groups) l)) (needs-end needs i h)) ∙ s .same;
-        count = omega (arith, s .count, ap length (needs-end needs i h));
-      }
+    pub key-read : {a b k : ℕ} → a ≡ ownerAt items owners (getD needs (3 * row) 0) → b ≡ ownerAt items owners (getD needs (3 * row + 1) 0) → k ≡ bothOwn a b
+        → getD (keysOf p groups) row 0 ≡ k
+    unfolding needAt
+    key-read e f g =
+        getD-map (keyOf p groups) (p .needs) row (needRow 0 0 0) 0 here
+        ∙ ap (keyOf p groups) (need-read row here)
+        ∙ key-both p groups (needAt needs row)
+        ∙ ap₂ bothOwn (owner-read o (getD needs (3 * row) 0) (ends-below .dependant-below) ∙ sym e) (owner-read o (getD needs (3 * row + 1) 0) (ends-below .dependency-below) ∙ sym f)
+        ∙ sym g
+
+    pub key-below : getD (keysOf p groups) row 0 < moduleLimit + 1
+    key-below =
+        omega (arith, getD-map (keyOf p groups) (p .needs) row (needRow 0 0 0) 0 here, key-most p groups (getD (p .needs) row (needRow 0 0 0)), o .groups-most)
 
 -- The entries that pass a test, by their positions.
 positions-kept : {A : Type 0} (f : A → ℕ) (test : ℕ → Bool) (d : A) (place : ℕ → A) (i : ℕ) (l : List A) → ((j x : ℕ) → j < length l → x ≡ i + j → place x ≡ getD l j d)
@@ -171,54 +156,48 @@ positions-kept {A} f test d place i (x ∷ l) h =
     go (holds e) same = rw e (ap₂ (λ (y : A) (k : List A). y ∷ k) (h 0 i (omega arith) (omega arith)) same)
     go (fails e) same = rw e same
 
--- The chains.
-module _ {p : Project} {groups : List (List ℕ)} {items needs owners keys heads next : List ℕ} (a : NeedsChainable p groups items needs owners keys heads next)
-    {keys′ : List ℕ} {n : ℕ} (w : KeysWritten p groups keys keys′ n) where
-  keys-count : length (map (keyOf p groups) (p .needs)) ≡ length (p .needs)
-  keys-count = length-map (p .needs) (keyOf p groups)
+-- The needs from row i on are chained.
+abbrev pub Chaining : Project → List (List ℕ) → ℕ → List ℕ → List ℕ → List ℕ → List ℕ → Type 0
+Chaining p groups i heads₀ next₀ heads next = Linked i (keysOf p groups) (length (p .needs)) heads₀ next₀ heads next
 
-  key-read : (i : ℕ) → i < n → getD keys′ i 0 ≡ keyOf p groups (getD (p .needs) i (needRow 0 0 0))
-  key-read i h =
-      ap (λ (l : List ℕ). getD l i 0) (w .whole)
-      ∙ sets-getD (map (keyOf p groups) (p .needs)) keys i (omega (arith, keys-count, a .keys-room)) (omega (arith, keys-count, w .count))
-      ∙ getD-map (keyOf p groups) (p .needs) i (needRow 0 0 0) 0 (omega (arith, w .count))
+keys-length : (p : Project) (groups : List (List ℕ)) → length (keysOf p groups) ≡ length (p .needs)
+keys-length p groups = length-map (p .needs) (keyOf p groups)
 
-  pub needs-linkable : Linkable keys′ n heads next
-  needs-linkable =
-      record {
-        from-size = omega (arith, ap length (w .whole), length-sets keys 0 (map (keyOf p groups) (p .needs)), a .keys-room, w .count);
-        next-size = omega (arith, w .count, a .next-room);
-        most = omega (arith, w .count, a .owned .accepted .needs-most);
-        below = λ i h. omega (arith, key-read i h, key-most p groups (getD (p .needs) i (needRow 0 0 0)), a .owned .groups-most, a .heads-zero .size);
-        empty = λ i h. a .heads-zero .zeros (getD keys′ i 0);
-      }
+pub chaining-start : {p : Project} {groups : List (List ℕ)} {items needs owners heads next : List ℕ} → NeedsChainable p groups items needs owners heads next
+    → Chaining p groups (length needs / 3) heads next heads next
+chaining-start {p} {groups} {heads = heads} {next = next} a = rw (← needs-total (a .owned)) (link-none (keysOf p groups) (length (p .needs)) heads next)
 
-  module _ {heads′ next′ : List ℕ} (l : Linked 0 keys′ n heads next heads′ next′) (heads-size : length heads′ ≡ length heads) (next-size : length next′ ≡ length next) where
-    first-keys : take n keys′ ≡ map (keyOf p groups) (p .needs)
-    first-keys =
-        ap (take n) (w .whole) ∙ ap (λ (k : ℕ). take k (sets keys 0 (map (keyOf p groups) (p .needs)))) (w .count ∙ sym keys-count)
-        ∙ sets-take (map (keyOf p groups) (p .needs)) keys (omega (arith, keys-count, a .keys-room))
+module _ {p : Project} {groups : List (List ℕ)} {items needs owners heads₀ next₀ : List ℕ} (a : NeedsChainable p groups items needs owners heads₀ next₀) where
+  pub chaining-next : {i k : ℕ} {heads next : List ℕ} → Chaining p groups i heads₀ next₀ heads next → length heads ≡ length heads₀ → length next ≡ length next₀
+      → 0 < i → i ≤ length needs / 3 → getD (keysOf p groups) (i - 1) 0 ≡ k
+      → Chaining p groups (i - 1) heads₀ next₀ (set heads k (i - 1 + 1)) (set next (i - 1) (getD heads k 0))
+  chaining-next {i} {heads = heads} {next = next} l heads-size next-size more within e =
+      rw e at
+      (link-turn (keysOf p groups) heads₀ next₀ heads next (length (p .needs)) i more (omega (arith, needs-total (a .owned))) (omega (arith, keys-length p groups))
+      (omega (arith, a .next-room)) (omega (arith, key-below (a .owned) {row = i - 1} (omega arith), a .heads-zero .size)) (a .heads-zero .zeros (getD (keysOf p groups) (i - 1) 0)) l)
 
-    need-read : (j x : ℕ) → j < length (p .needs) → x ≡ 0 + j → needAt needs x ≡ getD (p .needs) j (needRow 0 0 0)
-    need-read j x h e =
-        let same : x ≡ j = omega arith in
-        rw (same, a .owned .needs-are) (sym (need-at (needRow 0 0 0) needs j (omega (arith, ap length (a .owned .needs-are)))))
+  module _ {heads next : List ℕ} (l : Chaining p groups 0 heads₀ next₀ heads next) (heads-size : length heads ≡ length heads₀) (next-size : length next ≡ length next₀) where
+    first-keys : take (length (p .needs)) (keysOf p groups) ≡ keysOf p groups
+    first-keys = take-all (length (p .needs)) (keysOf p groups) (omega (arith, keys-length p groups))
 
-    along : (k : ℕ) → k ≤ moduleLimit → NeedsAlong needs next′ (getD heads′ k 0) (keep (λ (n : Need). eqb (keyOf p groups n) k) (p .needs))
+    row-read : (j x : ℕ) → j < length (p .needs) → x ≡ 0 + j → needAt needs x ≡ getD (p .needs) j (needRow 0 0 0)
+    row-read j x h e = let same : x ≡ j = omega arith in rw same (sym (need-read (a .owned) j h))
+
+    along : (k : ℕ) → k ≤ moduleLimit → NeedsAlong needs next (getD heads k 0) (keep (λ (n : Need). eqb (keyOf p groups n) k) (p .needs))
     along k h =
         let zero-head = a .heads-zero .zeros k in
         record {
-          count = n;
-          most = omega (arith, w .count, a .owned .accepted .needs-most);
-          within = omega (arith, w .count, needs-count needs, ap length (a .owned .needs-are));
-          next-size = omega (arith, w .count, a .next-room);
+          count = length (p .needs);
+          most = a .owned .accepted .needs-most;
+          within = omega (arith, needs-total (a .owned));
+          next-size = omega (arith, a .next-room);
           next-onward = λ i g. l .next-onward i (omega arith) g;
           head-most = l .heads-onward k zero-head .1;
           along =
               ap (map (needAt needs))
               (l .chains k (omega (arith, a .heads-zero .size)) zero-head ∙ ap (positionsFrom 0 (λ x. eqb x k)) first-keys)
-              ∙ positions-kept (keyOf p groups) (λ x. eqb x k) (needRow 0 0 0) (needAt needs) 0 (p .needs) need-read;
+              ∙ positions-kept (keyOf p groups) (λ x. eqb x k) (needRow 0 0 0) (needAt needs) 0 (p .needs) row-read;
         }
 
-    pub needs-chained : NeedsChained p groups needs next′ heads′
+    pub needs-chained : NeedsChained p groups needs next heads
     needs-chained = record { heads-size = heads-size ∙ a .heads-zero .size; chains = along }

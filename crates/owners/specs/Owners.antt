@@ -5,7 +5,6 @@ use mathlib.Core.Bool.{true, false}
 use mathlib.Core.List.{List, [], _∷_, map}
 use lib.Dec.{eqb}
 use lib.ListN.{length, getD}
-use lib.Seq.{sets}
 use Rattle.rules.specs.Lists.{elem, keep}
 use Rattle.rules.specs.Project.{Need, Project, moduleLimit, needLimit, itemRow, needRow, pairRows, needRows}
 use Rattle.rules.specs.Items.{itemAt}
@@ -91,19 +90,13 @@ pub record RowRoom (items owners : List ℕ) (row : ℕ) : Type 0 where
 unfoldable pub bothOwn : ℕ → ℕ → ℕ
 bothOwn a b = elim (eqb a b) [ true ↦ a | false ↦ 0 ]
 
--- The keys of all needs stand in an array, and behind them what stood there before.
-pub record KeysWritten (p : Project) (groups : List (List ℕ)) (keys keys′ : List ℕ) (n : ℕ) : Type 0 where
-  pub whole : keys′ ≡ sets keys 0 (map (keyOf p groups) (p .needs))
-  pub count : n ≡ length (p .needs)
-
--- What chaining them asks for besides: an array for the keys, one for the entries, and heads that are all 0.
-pub record NeedsChainable (p : Project) (groups : List (List ℕ)) (items needs owners keys heads next : List ℕ) : Type 0 where
+-- What chaining them asks for besides: an array for the entries, and heads that are all 0.
+pub record NeedsChainable (p : Project) (groups : List (List ℕ)) (items needs owners heads next : List ℕ) : Type 0 where
   pub owned : Owned p groups items needs owners
-  pub keys-room : length (p .needs) ≤ length keys
   pub next-room : length (p .needs) ≤ length next
   pub heads-zero : Zeros (moduleLimit + 1) heads
 
--- What it gives: for each key the chain of its needs. What `keys` holds is left free.
+-- What it gives: for each key the chain of its needs.
 pub record NeedsChained (p : Project) (groups : List (List ℕ)) (needs next′ heads′ : List ℕ) : Type 0 where
   pub heads-size : length heads′ ≡ moduleLimit + 1
   pub chains : (k : ℕ) → k ≤ moduleLimit → NeedsAlong needs next′ (getD heads′ k 0) (keep (λ (n : Need). eqb (keyOf p groups n) k) (p .needs))

@@ -1,13 +1,12 @@
 // The group that the items of each module belong to, and the needs of a project chained by the group that both their items belong to, so that a group
 // finds its needs without a scan of all.
-use lists::pairs;
-ghost use Prim.Native.Nat.{ℕ, _≤_};
+ghost use Prim.Native.Nat.{ℕ};
 ghost use mathlib.Core.Path.{_≡_};
 ghost use mathlib.Core.List.{List};
 ghost use lib.ListN.{length};
 ghost use Rattle.rules.specs.Project.{Project};
 ghost use Rattle.laws.specs.Counting.{Below};
-ghost use Rattle.owners.specs.Owners.{orElse, Noted, Notable, OwnersShown, Owned, ownerAt, RowRoom, bothOwn, KeysWritten, NeedsChainable, NeedsChained};
+ghost use Rattle.owners.specs.Owners.{orElse, Noted, Notable, OwnersShown, ownerAt, RowRoom, bothOwn, NeedsChainable, NeedsChained};
 
 // The first of two owners, where 0 stands for none.
 fn or_else(a: u8, b: u8) -> u8
@@ -55,45 +54,27 @@ fn owner_of(items: &[u8], owners: &[u8], row: u8) -> u8
 }
 
 // What two rows are both owned by, or 0.
-fn both_own(a: u8, b: u8) -> u16
+fn both_own(a: u8, b: u8) -> u8
     ensures { λ r. ⌜ r ≡ bothOwn a b ⌝ }
 {
-    if a == b { a as u16 } else { 0 }
-}
-
-// Writes the key of each need; how many needs there are.
-fn write_keys(items: &[u8], needs: &[u8], owners: &[u8], keys: &mut [u16]) -> usize
-    requires { ⌜ ((p : Project) × (groups : List (List ℕ)) × Owned p groups (now items) (now needs) (now owners) × (length (p .needs) ≤ length (now keys))) ⌝ }
-    ensures { λ r. ⌜ ((p : Project) (groups : List (List ℕ)) → Owned p groups (now (items .entry)) (now (needs .entry)) (now (owners .entry))
-        → KeysWritten p groups (now (keys .entry)) (now (keys .exit)) r) ⌝ }
-{
-    let mut i = 0;
-    let mut k = 0;
-    while i + 2 < needs.len() {
-        let a = owner_of(items, owners, needs[i]);
-        let b = owner_of(items, owners, needs[i + 1]);
-        keys[k] = both_own(a, b);
-        i += 3;
-        k += 1;
-    }
-    k
+    if a == b { a } else { 0 }
 }
 
 // Chains the needs by the owner of both their items, and by 0 where that differs: heads[k] is one more than the first row with key k, next[row] one more
-// than the next row with its key, and 0 stands for none.
-pub fn chain_needs(
-    items: &[u8],
-    needs: &[u8],
-    owners: &[u8],
-    keys: &mut [u16],
-    heads: &mut [u16],
-    next: &mut [u16],
-)
-    requires { ⌜ ((p : Project) × (groups : List (List ℕ)) × NeedsChainable p groups (now items) (now needs) (now owners) (now keys) (now heads) (now next)) ⌝ }
+// than the next row with its key, and 0 stands for none. The last row is linked first, so that the rows of a chain ascend.
+pub fn chain_needs(items: &[u8], needs: &[u8], owners: &[u8], heads: &mut [u16], next: &mut [u16])
+    requires { ⌜ ((p : Project) × (groups : List (List ℕ)) × NeedsChainable p groups (now items) (now needs) (now owners) (now heads) (now next)) ⌝ }
     ensures { λ _. ⌜ ((p : Project) (groups : List (List ℕ))
-        → NeedsChainable p groups (now (items .entry)) (now (needs .entry)) (now (owners .entry)) (now (keys .entry)) (now (heads .entry)) (now (next .entry))
+        → NeedsChainable p groups (now (items .entry)) (now (needs .entry)) (now (owners .entry)) (now (heads .entry)) (now (next .entry))
         → NeedsChained p groups (now (needs .entry)) (now (next .exit)) (now (heads .exit))) ⌝ }
 {
-    let n = write_keys(items, needs, owners, keys);
-    pairs::link(keys, n, heads, next);
+    let mut i = needs.len() / 3;
+    while 0 < i {
+        i -= 1;
+        let a = owner_of(items, owners, needs[3 * i]);
+        let b = owner_of(items, owners, needs[3 * i + 1]);
+        let k = both_own(a, b) as usize;
+        next[i] = heads[k];
+        heads[k] = (i + 1) as u16;
+    }
 }

@@ -14,7 +14,7 @@ add-requires c κs = search needs
 set-weight-requires : tie.Need-set-weight-requires
 set-weight-requires c κs =
     let added = c .before .before .before .before .before .before .before in
-    let start = added .before .before .before .before .before .before .before .before .before .before in
+    let start = added .before .before .before .before .before .before .before .before .before .before .before in
     let rows = start .pre .space .weak-rows in
     place rows (start .args .x) (start .args .y) (start .pre .first) (column rows (start .pre .second))
 
@@ -39,15 +39,18 @@ same-length-5 c = search needs
 same-length-6 : tie.Need-same-length-6
 same-length-6 c = search needs
 
+same-length-7 : tie.Need-same-length-7
+same-length-7 c = search needs
+
 returns : tie.Need-returns
 returns c =
-    let way = c .before .before .before .before in
-    let weak = way .before .before .before .before .before in
+    let way = c .before .before .before .before .before .before in
+    let weak = way .before .before .before .before .before .before in
     let pairs = weak .before .before .before .before .before .before .before .before in
-    let start = pairs .before .before .before .before .before .before .before .before .before .before in
+    let start = pairs .before .before .before .before .before .before .before .before .before .before .before in
     edge-added (start .args .weight) (start .pre)
     (space-sized (start .pre .space) (pairs .add .kept .0) (weak .set-weight .kept .0) (way .insert-transitives .kept .1 .0)
-    (way .insert-transitives .kept .0))
+    (way .insert-transitives .kept .1 .1 .0) (way .insert-transitives .kept .0))
     (pairs .add .ensures) (weak .set-weight .ensures) (way .insert-transitives .ensures)
 
 pub add-edge-spec : {M : Type 1} → statement M
@@ -64,4 +67,5 @@ add-edge-spec =
     same-length-4
     same-length-5
     same-length-6
+    same-length-7
     returns)

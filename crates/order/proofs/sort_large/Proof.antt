@@ -15,14 +15,11 @@ slice-aggregate-chain-needs c = search needs
 slice-aggregate-chain-needs-2 : tie.Need-slice-aggregate-chain-needs-2
 slice-aggregate-chain-needs-2 c = search needs
 
-slice-aggregate-chain-needs-3 : tie.Need-slice-aggregate-chain-needs-3
-slice-aggregate-chain-needs-3 c = search needs
-
 chain-needs-requires : tie.Need-chain-needs-requires
 chain-needs-requires c κs =
-    let start = c .before .before .before .before .before .before .before .before .before .before in
+    let start = c .before .before .before .before .before .before .before .before .before in
     let o = start .pre .3 in
-    (start .pre .0, start .pre .1, needs-chainable o (start .pre .5) (start .pre .5) (zeros-replicate (moduleLimit + 1)))
+    (start .pre .0, start .pre .1, needs-chainable o (start .pre .5) (zeros-replicate (moduleLimit + 1)))
 
 slice-aggregate-sort-turns : tie.Need-slice-aggregate-sort-turns
 slice-aggregate-sort-turns c = search needs
@@ -62,15 +59,15 @@ slice-aggregate-sort-turns-12 c = search needs
 
 sort-turns-requires : tie.Need-sort-turns-requires
 sort-turns-requires c κs =
-    let start = c .before .before .before .before .before .before .before .before .before .before .before .before .before .before .before .before .before .before .before .before .before .before .before .before .before .before .before in
+    let start = c .before .before .before .before .before .before .before .before .before .before .before .before .before .before .before .before .before .before .before .before .before .before .before .before .before in
     let p = start .pre .0 in
     let groups = start .pre .1 in
     let o = start .pre .3 in
-    let chainable = needs-chainable o (start .pre .5) (start .pre .5) (zeros-replicate (moduleLimit + 1)) in (
+    let chainable = needs-chainable o (start .pre .5) (zeros-replicate (moduleLimit + 1)) in (
       p,
       groups,
       start .pre .2,
-      sorting o (c .before .before .before .before .before .before .before .before .before .before .before .before .before .before .before .before .chain-needs .ensures p groups chainable),
+      sorting o (c .before .before .before .before .before .before .before .before .before .before .before .before .before .before .before .chain-needs .ensures p groups chainable),
       lent itemLimit needLimit 1024 16384 193 (start .pre .4) (start .pre .5) (omega arith) (omega arith) (omega arith) (omega arith) (omega arith),
     )
 
@@ -79,8 +76,8 @@ same-length c = search needs
 
 returns : tie.Need-returns
 returns c = λ p groups before o few many.
-    let chainable = needs-chainable o many many (zeros-replicate (moduleLimit + 1)) in
-    c .before .before .before .before .before .before .before .before .before .before .before .before .sort-turns .ensures p groups before (sorting o (c .before .before .before .before .before .before .before .before .before .before .before .before .before .before .before .before .before .before .before .before .before .before .before .before .before .before .before .before .before .chain-needs .ensures p groups chainable))
+    let chainable = needs-chainable o many (zeros-replicate (moduleLimit + 1)) in
+    c .before .before .before .before .before .before .before .before .before .before .before .before .sort-turns .ensures p groups before (sorting o (c .before .before .before .before .before .before .before .before .before .before .before .before .before .before .before .before .before .before .before .before .before .before .before .before .before .before .before .before .chain-needs .ensures p groups chainable))
     (lent itemLimit needLimit 1024 16384 193 few many (omega arith) (omega arith) (omega arith) (omega arith) (omega arith))
 
 pub sort-large-spec : {M : Type 1} → statement M
@@ -89,7 +86,6 @@ sort-large-spec =
     (tie.spec
     slice-aggregate-chain-needs
     slice-aggregate-chain-needs-2
-    slice-aggregate-chain-needs-3
     chain-needs-requires
     slice-aggregate-sort-turns
     slice-aggregate-sort-turns-2

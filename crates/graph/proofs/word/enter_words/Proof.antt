@@ -1,77 +1,74 @@
--- `graph::word::enter_words` meets its contract. Assumes nothing.
-use mathlib.Core.Path.{_∙_}
-use lib.ListN.{length-set}
+-- `graph::word::enter_words` meets its contract: its parts in turn. Assumes nothing.
 use borrow.Author.Needs.{needs}
-use Rattle.graph.specs.WordLaws.{words-entered}
+use Rattle.graph.specs.WordLaws.{reach-room, into-room, paths-room, words-transposed, words-entered}
 use Rattle.graph.proofs.word.enter_words.Statement.{statement}
 use Rattle.graph.proofs.word.enter_words.Tie as tie
 
-shl-entry : tie.Need-shl-entry
-shl-entry c = search needs
+shl-first : tie.Need-shl-first
+shl-first c = search needs
 
-mul-row : tie.Need-mul-row
-mul-row c = search needs
+shl-last : tie.Need-shl-last
+shl-last c = search needs
 
-slice-read-row : tie.Need-slice-read-row
-slice-read-row c = search needs
+mul-before : tie.Need-mul-before
+mul-before c = search needs
+
+slice-read-before : tie.Need-slice-read-before
+slice-read-before c = search needs
+
+mul-beyond : tie.Need-mul-beyond
+mul-beyond c = search needs
+
+slice-read-beyond : tie.Need-slice-read-beyond
+slice-read-beyond c = search needs
+
+join-set-requires : tie.Need-join-set-requires
+join-set-requires c κs = reach-room (c .before .before .before .before .before .before .pre .1)
+
+join-set-requires-2 : tie.Need-join-set-requires-2
+join-set-requires-2 c κs = into-room (c .before .before .before .before .before .before .before .before .before .before .pre .1)
+
+join-set-requires-3 : tie.Need-join-set-requires-3
+join-set-requires-3 c κs = paths-room (c .before .before .before .before .before .before .before .before .before .before .before .before .before .before .pre .1)
 
 join-word-requires : tie.Need-join-word-requires
 join-word-requires c κs = search needs
 
-shl-join-word : tie.Need-shl-join-word
-shl-join-word c = search needs
-
-join-word-requires-2 : tie.Need-join-word-requires-2
-join-word-requires-2 c κs = search needs
-
-mul-own : tie.Need-mul-own
-mul-own c = search needs
-
-slice-read-own : tie.Need-slice-read-own
-slice-read-own c = search needs
-
-join-holding-requires : tie.Need-join-holding-requires
-join-holding-requires c κs = search needs
-
-mul-paths : tie.Need-mul-paths
-mul-paths c = search needs
-
-slice-write-paths : tie.Need-slice-write-paths
-slice-write-paths c = search needs
-
 same-length : tie.Need-same-length
-same-length c =
-    let joined = c .before .before .before .before in
-    let own = joined .before .before .before .before .before .before in
-    simp length-set (joined .join-holding .kept .0 ∙ own .join-word2 .kept .0)
+same-length c = search needs
 
 same-length-2 : tie.Need-same-length-2
 same-length-2 c = search needs
 
+same-length-3 : tie.Need-same-length-3
+same-length-3 c = search needs
+
 returns : tie.Need-returns
 returns c =
-    let joined = c .before .before .before .before in
-    let own = joined .before .before .before .before .before .before in
-    let first = own .before .before .before .before in
-    let start = first .before .before .before .before .before in
-    words-entered (start .pre) (joined .join-holding .kept .0 ∙ own .join-word2 .kept .0) (first .join-word .ensures) (own .join-word2 .ensures)
-    (joined .join-holding .ensures)
+    let own = c .before .before in
+    let others = own .before .before .before .before in
+    let into = others .before .before .before .before in
+    let reach = into .before .before .before .before in
+    λ n r. (
+      words-entered r (reach .join-set .ensures) (into .join-set2 .ensures) (others .join-set3 .ensures) (own .join-word .ensures),
+      words-transposed r (reach .join-set .ensures) (into .join-set2 .ensures) (others .join-set3 .ensures) (own .join-word .ensures),
+    )
 
 pub enter-words-spec : {M : Type 1} → statement M
 enter-words-spec =
     tie.close
     (tie.spec
-    shl-entry
-    mul-row
-    slice-read-row
+    shl-first
+    shl-last
+    mul-before
+    slice-read-before
+    mul-beyond
+    slice-read-beyond
+    join-set-requires
+    join-set-requires-2
+    join-set-requires-3
     join-word-requires
-    shl-join-word
-    join-word-requires-2
-    mul-own
-    slice-read-own
-    join-holding-requires
-    mul-paths
-    slice-write-paths
     same-length
     same-length-2
+    same-length-3
     returns)

@@ -12,7 +12,7 @@ number-in-group-requires c κs = search needs
 
 returns : tie.Need-returns
 returns c =
-    let start = c .before .before .before .before .before .before .before .before .before .before in
+    let start = c .before .before .before .before .before .before .before .before .before .before .before in
     let rows = take (start .args .n) (start .args .rows .now) in
     λ graph room.
     rw (no-dependant rows (start .args .a) (start .args .b) (start .args .weight) graph (sym (c .before .number-in-group .ensures) ∙ c .if1 .taken)) (room .shows)
@@ -22,7 +22,7 @@ number-in-group-requires-2 c κs = search needs
 
 returns-2 : tie.Need-returns-2
 returns-2 c =
-    let start = c .before .before .before .before .before .before .before .before .before .before .before .before in
+    let start = c .before .before .before .before .before .before .before .before .before .before .before .before .before in
     let rows = take (start .args .n) (start .args .rows .now) in
     λ graph room.
     rw (no-dependency rows (start .args .a) (start .args .b) (start .args .weight) graph (sym (c .before .number-in-group2 .ensures) ∙ c .if2 .taken)) (room .shows)
@@ -35,12 +35,12 @@ sub-add-edge-2 c = search needs
 
 add-edge-requires : tie.Need-add-edge-requires
 add-edge-requires c κs =
-    let second = c .before .before .before .before .before .before .before in
+    let second = c .before .before .before .before .before .before .before .before in
     let first = second .before .before in
-    let start = first .before .before .before .before .before .before .before .before .before in
+    let start = first .before .before .before .before .before .before .before .before .before .before in
     let rows = take (start .args .n) (start .args .rows .now) in
     need-room rows (start .args .a) (start .args .b) (start .args .weight) (start .pre .1 .0) (first .number-in-group .ensures) (second .number-in-group2 .ensures)
-    (second .before .if1 .left) (c .before .before .before .before .before .before .if2 .left) (length-take-le (start .args .n) (start .args .rows .now) (start .pre .0 .rows-size)) (start .pre .1 .1)
+    (second .before .if1 .left) (c .before .before .before .before .before .before .before .if2 .left) (length-take-le (start .args .n) (start .args .rows .now) (start .pre .0 .rows-size)) (start .pre .1 .1)
 
 same-length : tie.Need-same-length
 same-length c = search needs
@@ -60,16 +60,19 @@ same-length-5 c = search needs
 same-length-6 : tie.Need-same-length-6
 same-length-6 c = search needs
 
+same-length-7 : tie.Need-same-length-7
+same-length-7 c = search needs
+
 returns-3 : tie.Need-returns-3
 returns-3 c =
-    let second = c .before .before .before .before .before .before .before .before .before .before .before .before .before .before .before .before .before .before .before .before in
+    let second = c .before .before .before .before .before .before .before .before .before .before .before .before .before .before .before .before .before .before .before .before .before .before .before in
     let first = second .before .before in
-    let start = first .before .before .before .before .before .before .before .before .before in
+    let start = first .before .before .before .before .before .before .before .before .before .before in
     let rows = take (start .args .n) (start .args .rows .now) in
     λ graph room.
     need-shown rows (start .args .a) (start .args .b) (start .args .weight) graph (first .number-in-group .ensures) (second .number-in-group2 .ensures)
-    (second .before .if1 .left) (c .before .before .before .before .before .before .before .before .before .before .before .before .before .before .before .before .before .before .before .if2 .left) (length-take-le (start .args .n) (start .args .rows .now) (start .pre .0 .rows-size)) room
-    (c .before .before .before .before .before .before .before .before .before .before .before .before .add-edge .ensures)
+    (second .before .if1 .left) (c .before .before .before .before .before .before .before .before .before .before .before .before .before .before .before .before .before .before .before .before .before .before .if2 .left) (length-take-le (start .args .n) (start .args .rows .now) (start .pre .0 .rows-size)) room
+    (c .before .before .before .before .before .before .before .before .before .before .before .before .before .before .add-edge .ensures)
 
 pub add-need-spec : {M : Type 1} → statement M
 add-need-spec =
@@ -88,4 +91,5 @@ add-need-spec =
     same-length-4
     same-length-5
     same-length-6
+    same-length-7
     returns-3)

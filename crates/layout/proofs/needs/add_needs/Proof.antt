@@ -18,26 +18,27 @@ use Rattle.layout.proofs.needs.add_needs.Lts as lts
 use Rattle.layout.proofs.needs.add_need.Reads as add-need-reads
 
 -- the arrays that needs are added to, as long as they were
-record Lengths (seen₀ weak₀ reach₀ paths₀ from₀ to₀ seen weak reach paths from to : List ℕ) : Type 0 where
+record Lengths (seen₀ weak₀ reach₀ into₀ paths₀ from₀ to₀ seen weak reach into paths from to : List ℕ) : Type 0 where
   of-seen : length seen ≡ length seen₀
   of-weak : length weak ≡ length weak₀
   of-reach : length reach ≡ length reach₀
+  of-into : length into ≡ length into₀
   of-paths : length paths ≡ length paths₀
   of-from : length from ≡ length from₀
   of-to : length to ≡ length to₀
 
 abbrev Inv-loop : tie.InvT-loop
-Inv-loop needs next head rows n numbers words seen₀ weak₀ reach₀ paths₀ from₀ to₀ count₀ e₀ seen weak reach paths from to count e =
-    Lengths seen₀ weak₀ reach₀ paths₀ from₀ to₀ seen weak reach paths from to
-    × ((own : List Need) (a : NeedsAlong needs next head own) → NeedsRoom words n own (matrices seen₀ weak₀ reach₀ paths₀) from₀ to₀
-    → Adding (take n rows) needs next (a .count) e own words n (matrices seen weak reach paths) from to count)
+Inv-loop needs next head rows n numbers words seen₀ weak₀ reach₀ into₀ paths₀ from₀ to₀ count₀ e₀ seen weak reach into paths from to count e =
+    Lengths seen₀ weak₀ reach₀ into₀ paths₀ from₀ to₀ seen weak reach into paths from to
+    × ((own : List Need) (a : NeedsAlong needs next head own) → NeedsRoom words n own (matrices seen₀ weak₀ reach₀ into₀ paths₀) from₀ to₀
+    → Adding (take n rows) needs next (a .count) e own words n (matrices seen weak reach into paths) from to count)
 
 abbrev μ-loop : tie.MeasureT-loop
-μ-loop needs next head rows n numbers words seen₀ weak₀ reach₀ paths₀ from₀ to₀ count₀ e₀ seen weak reach paths from to count e = left needLimit e
+μ-loop needs next head rows n numbers words seen₀ weak₀ reach₀ into₀ paths₀ from₀ to₀ count₀ e₀ seen weak reach into paths from to count e = left needLimit e
 
 -- what the contract requires, at the loop's head
 abbrev entry : tie.At-loop Inv-loop μ-loop → tie.Start Inv-loop μ-loop
-entry c = c .before .before .before .before .before .before .before .before .before .before .before
+entry c = c .before .before .before .before .before .before .before .before .before .before .before .before
 
 along : (c : tie.At-loop Inv-loop μ-loop) → NeedsAlong (entry c .args .needs .now) (entry c .args .next .now) (entry c .args .head) (entry c .pre .1 .0)
 along c = entry c .pre .1 .1
@@ -47,7 +48,7 @@ most c = c .loop .inv .1 (entry c .pre .1 .0) (along c) (entry c .pre .1 .2) .mo
 
 loop-holds : tie.Need-loop-holds Inv-loop μ-loop
 loop-holds c = (
-  record { of-seen = refl; of-weak = refl; of-reach = refl; of-paths = refl; of-from = refl; of-to = refl },
+  record { of-seen = refl; of-weak = refl; of-reach = refl; of-into = refl; of-paths = refl; of-from = refl; of-to = refl },
   λ own a r. adding-start a r,
 )
 
@@ -80,7 +81,7 @@ shared-slice-read-weight c = omega (arith, most (c .before .before .before .befo
 
 add-need-requires : tie.Need-add-need-requires Inv-loop μ-loop
 add-need-requires c κs =
-    let turn = c .before .before .before .before .before .before .before .before .before in
+    let turn = c .before .before .before .before .before .before .before .before .before .before in
     let head = turn .before in
     let start = entry head in
     let own = start .pre .1 in
@@ -94,37 +95,38 @@ add-need-requires c κs =
     )
 
 mul-e : tie.Need-mul-e Inv-loop μ-loop
-mul-e c = let head = c .before .before .before .before .before .before .before .before .before .before .before .before .before .before .before .before .before .before .before .before .before .before .before in omega (arith, most head, along head .most)
+mul-e c = let head = c .before .before .before .before .before .before .before .before .before .before .before .before .before .before .before .before .before .before .before .before .before .before .before .before .before .before in omega (arith, most head, along head .most)
 
 shared-slice-read-e : tie.Need-shared-slice-read-e Inv-loop μ-loop
 shared-slice-read-e c =
-    let head = c .before .before .before .before .before .before .before .before .before .before .before .before .before .before .before .before .before .before .before .before .before .before .before .before in
-    omega (arith, most head, along head .next-size, c .before .before .before .before .before .before .before .before .before .before .before .before .before .before .before .before .before .before .before .before .before .before .before .loop-test .taken)
+    let head = c .before .before .before .before .before .before .before .before .before .before .before .before .before .before .before .before .before .before .before .before .before .before .before .before .before .before .before in
+    omega (arith, most head, along head .next-size, c .before .before .before .before .before .before .before .before .before .before .before .before .before .before .before .before .before .before .before .before .before .before .before .before .before .before .loop-test .taken)
 
 cast-e : tie.Need-cast-e Inv-loop μ-loop
 cast-e c =
-    let head = c .before .before .before .before .before .before .before .before .before .before .before .before .before .before .before .before .before .before .before .before .before .before .before .before in
-    let more = c .before .before .before .before .before .before .before .before .before .before .before .before .before .before .before .before .before .before .before .before .before .before .before .loop-test .taken in
+    let head = c .before .before .before .before .before .before .before .before .before .before .before .before .before .before .before .before .before .before .before .before .before .before .before .before .before .before .before in
+    let more = c .before .before .before .before .before .before .before .before .before .before .before .before .before .before .before .before .before .before .before .before .before .before .before .before .before .before .loop-test .taken in
     omega (arith, along head .next-onward (head .loop .e - 1) (omega (arith, most head, more)) .1, along head .most)
 
 loop-less : tie.Need-loop-less Inv-loop μ-loop
 loop-less c =
-    let turn = c .before .before .before .before .before .before .before .before .before .before .before .before .before .before .before .before .before .before .before .before .before .before .before in
+    let turn = c .before .before .before .before .before .before .before .before .before .before .before .before .before .before .before .before .before .before .before .before .before .before .before .before .before .before in
     needs-less (along (turn .before)) (turn .before .loop .e) (omega (arith, turn .loop-test .taken)) (most (turn .before))
 
 loop-again : tie.Need-loop-again Inv-loop μ-loop
 unfolding needAt
 loop-again c =
-    let turn = c .before .before .before .before .before .before .before .before .before .before .before .before .before .before .before .before .before .before .before .before .before .before .before in
+    let turn = c .before .before .before .before .before .before .before .before .before .before .before .before .before .before .before .before .before .before .before .before .before .before .before .before .before .before in
     let head = turn .before in
-    let added = c .before .before .before .before .before .before .before .before .before .before .before .before .before .add-need in (
+    let added = c .before .before .before .before .before .before .before .before .before .before .before .before .before .before .before .add-need in (
       record {
         of-seen = added .kept .1 .1 .1 .1 .1 .1 .1 .0 ∙ head .loop .inv .0 .of-seen;
         of-weak = added .kept .1 .1 .1 .1 .1 .1 .1 .1 .0 ∙ head .loop .inv .0 .of-weak;
         of-reach = added .kept .1 .1 .1 .1 .1 .1 .1 .1 .1 .0 ∙ head .loop .inv .0 .of-reach;
-        of-paths = added .kept .1 .1 .1 .1 .1 .1 .1 .1 .1 .1 .0 ∙ head .loop .inv .0 .of-paths;
-        of-from = added .kept .1 .1 .1 .1 .1 .1 .1 .1 .1 .1 .1 .0 ∙ head .loop .inv .0 .of-from;
-        of-to = added .kept .1 .1 .1 .1 .1 .1 .1 .1 .1 .1 .1 .1 .0 ∙ head .loop .inv .0 .of-to;
+        of-into = added .kept .1 .1 .1 .1 .1 .1 .1 .1 .1 .1 .0 ∙ head .loop .inv .0 .of-into;
+        of-paths = added .kept .1 .1 .1 .1 .1 .1 .1 .1 .1 .1 .1 .0 ∙ head .loop .inv .0 .of-paths;
+        of-from = added .kept .1 .1 .1 .1 .1 .1 .1 .1 .1 .1 .1 .1 .0 ∙ head .loop .inv .0 .of-from;
+        of-to = added .kept .1 .1 .1 .1 .1 .1 .1 .1 .1 .1 .1 .1 .1 .0 ∙ head .loop .inv .0 .of-to;
       },
       λ own a r.
           let s = head .loop .inv .1 own a r in
@@ -143,13 +145,16 @@ same-length-3 : tie.Need-same-length-3 Inv-loop μ-loop
 same-length-3 c = c .before .loop .inv .0 .of-reach
 
 same-length-4 : tie.Need-same-length-4 Inv-loop μ-loop
-same-length-4 c = c .before .loop .inv .0 .of-paths
+same-length-4 c = c .before .loop .inv .0 .of-into
 
 same-length-5 : tie.Need-same-length-5 Inv-loop μ-loop
-same-length-5 c = c .before .loop .inv .0 .of-from
+same-length-5 c = c .before .loop .inv .0 .of-paths
 
 same-length-6 : tie.Need-same-length-6 Inv-loop μ-loop
-same-length-6 c = c .before .loop .inv .0 .of-to
+same-length-6 c = c .before .loop .inv .0 .of-from
+
+same-length-7 : tie.Need-same-length-7 Inv-loop μ-loop
+same-length-7 c = c .before .loop .inv .0 .of-to
 
 returns : tie.Need-returns Inv-loop μ-loop
 returns c = λ own a r. adding-end a (c .before .loop .inv .1 own a r) (omega (arith, c .loop-test .left))
@@ -182,4 +187,5 @@ add-needs-spec =
     same-length-4
     same-length-5
     same-length-6
+    same-length-7
     returns)
