@@ -103,45 +103,59 @@ link-none from n heads next =
     }
 
 module _ (from heads₀ next₀ heads next : List ℕ) (n i a : ℕ) (within : i < n) (from-size : n ≤ length from) (next-size : n ≤ length next)
-    (first : getD from i 0 ≡ a) (below : a < length heads) (empty : getD heads₀ a 0 ≡ 0) (l : Linked (suc i) from n heads₀ next₀ heads next) where
-  next-onward : (j : ℕ) → i ≤ j → j < n → Onward (suc j) n (getD (set next i (getD heads a 0)) j 0)
-  next-onward j h g =
-      after-set (Onward (suc j) n) next i j (getD heads a 0) 0 (omega arith) (λ e. rw e (l .heads-onward a empty)) (λ f. l .next-onward j (omega arith) g)
+    (first : getD from i 0 ≡ a) (l : Linked (suc i) from n heads₀ next₀ heads next) where
+  -- the entry at place i may be any that leads onward
+  next-onward : (e : ℕ) → Onward (suc i) n e → (j : ℕ) → i ≤ j → j < n → Onward (suc j) n (getD (set next i e) j 0)
+  next-onward e o j h g =
+      after-set (Onward (suc j) n) next i j e 0 (omega arith) (λ same. rw same o) (λ f. l .next-onward j (omega arith) g)
 
   -- behind place i nothing has changed
-  chain-behind : (b : ℕ) → getD heads₀ b 0 ≡ 0 → chain (set next i (getD heads a 0)) n (getD heads b 0) ≡ chain next n (getD heads b 0)
-  chain-behind b z =
-      sym (chain-same n (suc i) next (set next i (getD heads a 0)) (l .next-onward)
-      (λ j h. sym (getD-set-other next i j (getD heads a 0) 0 (λ e. omega arith))) n n (getD heads b 0) (l .heads-onward b z) (λ h. omega arith) (λ h. omega arith))
+  chain-behind : (e b : ℕ) → getD heads₀ b 0 ≡ 0 → chain (set next i e) n (getD heads b 0) ≡ chain next n (getD heads b 0)
+  chain-behind e b z =
+      sym (chain-same n (suc i) next (set next i e) (l .next-onward) (λ j h. sym (getD-set-other next i j e 0 (λ e. omega arith))) n n (getD heads b 0)
+      (l .heads-onward b z) (λ h. omega arith) (λ h. omega arith))
 
   places : (b : ℕ) → positionsFrom i (λ x. eqb x b) (drop i (take n from)) ≡ consIf (eqb a b) i (positionsFrom (suc i) (λ x. eqb x b) (drop (suc i) (take n from)))
   unfolding positionsFrom
   places b = rw (drop-cons (take n from) i 0 (omega (arith, length-take n from)), getD-take n from i 0 within, first)
 
-  chain-new : chain (set next i (getD heads a 0)) n (suc i) ≡ i ∷ chain next n (getD heads a 0)
-  chain-new =
-      chain-step n i (set next i (getD heads a 0)) next-onward i (omega arith) within
-      ∙ rw (getD-set-same next i (getD heads a 0) 0 (omega arith)) (ap (λ (k : List ℕ). i ∷ k) (chain-behind a empty))
+  chain-new : getD heads₀ a 0 ≡ 0 → chain (set next i (getD heads a 0)) n (suc i) ≡ i ∷ chain next n (getD heads a 0)
+  chain-new empty =
+      chain-step n i (set next i (getD heads a 0)) (next-onward (getD heads a 0) (l .heads-onward a empty)) i (omega arith) within
+      ∙ rw (getD-set-same next i (getD heads a 0) 0 (omega arith)) (ap (λ (k : List ℕ). i ∷ k) (chain-behind (getD heads a 0) a empty))
 
-  link-step : Linked i from n heads₀ next₀ (set heads a (suc i)) (set next i (getD heads a 0))
+  link-step : a < length heads → getD heads₀ a 0 ≡ 0 → Linked i from n heads₀ next₀ (set heads a (suc i)) (set next i (getD heads a 0))
   unfolding consIf
-  link-step =
+  link-step below empty =
       record {
         chains =
             λ b h z.
             after-set (λ e. chain (set next i (getD heads a 0)) n e ≡ positionsFrom i (λ x. eqb x b) (drop i (take n from))) heads a b (suc i) 0 below
-            (λ e. rw (e, places a, eq-eqb a a refl) (chain-new ∙ ap (λ (k : List ℕ). i ∷ k) (l .chains a below empty)))
-            (λ f. rw (places b, ne-eqb a b (λ e. f (sym e))) (chain-behind b z ∙ l .chains b (simp length-set at h) z));
+            (λ e. rw (e, places a, eq-eqb a a refl) (chain-new empty ∙ ap (λ (k : List ℕ). i ∷ k) (l .chains a below empty)))
+            (λ f. rw (places b, ne-eqb a b (λ e. f (sym e))) (chain-behind (getD heads a 0) b z ∙ l .chains b (simp length-set at h) z));
         heads-onward =
             λ b z.
             after-set (Onward i n) heads a b (suc i) 0 below (λ e. (λ h. omega arith, within))
             (λ f. let o = l .heads-onward b z in (λ h. omega (arith, o .0 h), o .1));
-        next-onward = next-onward;
+        next-onward = next-onward (getD heads a 0) (l .heads-onward a empty);
         heads-rest =
             λ b f.
             after-set (λ e. e ≡ getD heads₀ b 0) heads a b (suc i) 0 below (λ e. absurd (f (ap (λ (k : ℕ). getD heads₀ k 0) e ∙ empty)))
             (λ g. l .heads-rest b f);
         next-rest = drop-set-lt n next i (getD heads a 0) within ∙ l .next-rest;
+      }
+
+  -- a pair on no chain, whose entry ends
+  link-pass : (getD heads₀ a 0 ≡ 0 → ⊥) → Linked i from n heads₀ next₀ heads (set next i 0)
+  unfolding consIf
+  link-pass taken =
+      record {
+        chains =
+            λ b h z. rw (places b, ne-eqb a b (λ e. taken (ap (λ (k : ℕ). getD heads₀ k 0) e ∙ z))) (chain-behind 0 b z ∙ l .chains b h z);
+        heads-onward = λ b z. let o = l .heads-onward b z in (λ h. omega (arith, o .0 h), o .1);
+        next-onward = next-onward 0 (λ h. absurd (omega arith), omega arith);
+        heads-rest = l .heads-rest;
+        next-rest = drop-set-lt n next i 0 within ∙ l .next-rest;
       }
 
 -- the same, from a count of the pairs that are left
@@ -151,5 +165,13 @@ pub link-turn : (from heads₀ next₀ heads next : List ℕ) (n i : ℕ) → 0 
 link-turn from heads₀ next₀ heads next n i more within from-size next-size below empty l =
     let e : i ≡ suc (i - 1) = omega arith in
     rw add-one
-    (link-step from heads₀ next₀ heads next n (i - 1) (getD from (i - 1) 0) (omega arith) from-size next-size refl below empty
-    (subst (λ (k : ℕ). Linked k from n heads₀ next₀ heads next) e l))
+    (link-step from heads₀ next₀ heads next n (i - 1) (getD from (i - 1) 0) (omega arith) from-size next-size refl
+    (subst (λ (k : ℕ). Linked k from n heads₀ next₀ heads next) e l) below empty)
+
+pub link-past : (from heads₀ next₀ heads next : List ℕ) (n i : ℕ) → 0 < i → i ≤ n → n ≤ length from → n ≤ length next
+    → (getD heads₀ (getD from (i - 1) 0) 0 ≡ 0 → ⊥) → Linked i from n heads₀ next₀ heads next
+    → Linked (i - 1) from n heads₀ next₀ heads (set next (i - 1) 0)
+link-past from heads₀ next₀ heads next n i more within from-size next-size taken l =
+    let e : i ≡ suc (i - 1) = omega arith in
+    link-pass from heads₀ next₀ heads next n (i - 1) (getD from (i - 1) 0) (omega arith) from-size next-size refl
+    (subst (λ (k : ℕ). Linked k from n heads₀ next₀ heads next) e l) taken

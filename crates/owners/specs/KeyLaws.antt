@@ -5,8 +5,8 @@ use mathlib.Core.Path.{_≡_, refl, sym, ap, ap₂, _∙_}
 use mathlib.Core.Bool.{Bool}
 use mathlib.Core.List.{List, [], _∷_, map}
 use lib.Dec.{eqb}
-use lib.ListN.{length, getD, take, set, length-map}
-use lib.Seq.{take-all}
+use lib.ListN.{length, getD, take, set, length-map, length-set}
+use lib.Seq.{take-all, getD-set-same, getD-set-other, set-comm}
 use borrow.Author.Tests.{eqb-true, eqb-false, eq-eqb, ne-eqb}
 use Rattle.rules.specs.Lists.{consIf, keep, positionsFrom}
 use Rattle.rules.specs.Project.{Item, Need, Project, moduleLimit, itemRow, needRow, pairRows, needRows}
@@ -14,11 +14,11 @@ use Rattle.rules.specs.Items.{noItem, itemAt}
 use Rattle.laws.specs.Lists.{Tested, holds, fails, tested}
 use Rattle.laws.specs.Orders.{getD-∈, getD-map}
 use Rattle.laws.specs.Accepted.{NeedRow}
-use Rattle.lists.specs.Pairs.{Linked}
-use Rattle.lists.specs.ChainLaws.{link-none, link-turn}
+use Rattle.lists.specs.Pairs.{chain, Linked}
+use Rattle.lists.specs.ChainLaws.{link-none, link-turn, link-past}
 use Rattle.project.specs.RowLaws.{pairs-length}
 use Rattle.split.specs.SplitLaws.{pair-at}
-use Rattle.owners.specs.Owners.{ownerIn, ownerOf, keyOf, needAt, NeedsAlong, Owned, ownerAt, RowRoom, bothOwn, NeedsChainable, NeedsChained}
+use Rattle.owners.specs.Owners.{ownerIn, ownerOf, keyOf, needAt, NeedsAlong, Owned, ownerAt, RowRoom, bothOwn, headsWith, nextWith, NeedsChainable, NeedsChained}
 use Rattle.owners.specs.OwnerLaws.{owner-most}
 
 -- Rows of 3 bytes: row i is at byte 3 * i.
@@ -156,47 +156,74 @@ positions-kept {A} f test d place i (x ∷ l) h =
     go (holds e) same = rw e (ap₂ (λ (y : A) (k : List A). y ∷ k) (h 0 i (omega arith) (omega arith)) same)
     go (fails e) same = rw e same
 
--- The needs from row i on are chained.
+-- A row put in front of its chain, and one on no chain.
+pub with-none : (k i : ℕ) (heads next : List ℕ) → k ≡ 0 → (heads ≡ headsWith k i heads) × (set next i 0 ≡ nextWith k i heads next)
+unfolding headsWith nextWith
+with-none zero i heads next e = (refl, refl)
+with-none (suc k) i heads next e = absurd (omega arith)
+
+pub with-some : (k i : ℕ) (heads next : List ℕ) → (k ≡ 0 → ⊥)
+    → (set heads k (i + 1) ≡ headsWith k i heads) × (set next i (getD heads k 0) ≡ nextWith k i heads next)
+unfolding headsWith nextWith
+with-some zero i heads next f = absurd (f refl)
+with-some (suc k) i heads next f = (refl, refl)
+
+-- In the midst of chaining: the needs from row i on are linked. Key 0 has no chain: its head is taken for one that is not free.
 abbrev pub Chaining : Project → List (List ℕ) → ℕ → List ℕ → List ℕ → List ℕ → List ℕ → Type 0
-Chaining p groups i heads₀ next₀ heads next = Linked i (keysOf p groups) (length (p .needs)) heads₀ next₀ heads next
+Chaining p groups i heads₀ next₀ heads next = Linked i (keysOf p groups) (length (p .needs)) (set heads₀ 0 1) next₀ (set heads 0 1) next
 
 keys-length : (p : Project) (groups : List (List ℕ)) → length (keysOf p groups) ≡ length (p .needs)
 keys-length p groups = length-map (p .needs) (keyOf p groups)
 
 pub chaining-start : {p : Project} {groups : List (List ℕ)} {items needs owners heads next : List ℕ} → NeedsChainable p groups items needs owners heads next
     → Chaining p groups (length needs / 3) heads next heads next
-chaining-start {p} {groups} {heads = heads} {next = next} a = rw (← needs-total (a .owned)) (link-none (keysOf p groups) (length (p .needs)) heads next)
+chaining-start {p} {groups} {heads = heads} {next = next} a = rw (← needs-total (a .owned)) (link-none (keysOf p groups) (length (p .needs)) (set heads 0 1) next)
 
 module _ {p : Project} {groups : List (List ℕ)} {items needs owners heads₀ next₀ : List ℕ} (a : NeedsChainable p groups items needs owners heads₀ next₀) where
-  pub chaining-next : {i k : ℕ} {heads next : List ℕ} → Chaining p groups i heads₀ next₀ heads next → length heads ≡ length heads₀ → length next ≡ length next₀
-      → 0 < i → i ≤ length needs / 3 → getD (keysOf p groups) (i - 1) 0 ≡ k
-      → Chaining p groups (i - 1) heads₀ next₀ (set heads k (i - 1 + 1)) (set next (i - 1) (getD heads k 0))
-  chaining-next {i} {heads = heads} {next = next} l heads-size next-size more within e =
-      rw e at
-      (link-turn (keysOf p groups) heads₀ next₀ heads next (length (p .needs)) i more (omega (arith, needs-total (a .owned))) (omega (arith, keys-length p groups))
-      (omega (arith, a .next-room)) (omega (arith, key-below (a .owned) {row = i - 1} (omega arith), a .heads-zero .size)) (a .heads-zero .zeros (getD (keysOf p groups) (i - 1) 0)) l)
+  free : (k : ℕ) → getD (set heads₀ 0 1) (suc k) 0 ≡ 0
+  free k = getD-set-other heads₀ 0 (suc k) 1 0 (λ e. omega arith) ∙ a .heads-zero .zeros (suc k)
 
-  module _ {heads next : List ℕ} (l : Chaining p groups 0 heads₀ next₀ heads next) (heads-size : length heads ≡ length heads₀) (next-size : length next ≡ length next₀) where
+  taken : getD (set heads₀ 0 1) 0 0 ≡ 0 → ⊥
+  taken e = let one = getD-set-same heads₀ 0 1 0 (omega (arith, a .heads-zero .size)) in omega arith
+
+  pub chaining-next : {i : ℕ} (k : ℕ) (heads next : List ℕ) → Chaining p groups i heads₀ next₀ heads next → length heads ≡ length heads₀
+      → length next ≡ length next₀ → 0 < i → i ≤ length needs / 3 → getD (keysOf p groups) (i - 1) 0 ≡ k
+      → Chaining p groups (i - 1) heads₀ next₀ (headsWith k (i - 1) heads) (nextWith k (i - 1) heads next)
+  unfolding headsWith nextWith
+  chaining-next {i} zero heads next l heads-size next-size more within e =
+      link-past (keysOf p groups) (set heads₀ 0 1) next₀ (set heads 0 1) next (length (p .needs)) i more (omega (arith, needs-total (a .owned)))
+      (omega (arith, keys-length p groups)) (omega (arith, a .next-room)) (rw e taken) l
+  chaining-next {i} (suc k) heads next l heads-size next-size more within e =
+      rw (← set-comm heads 0 (suc k) 1 (i - 1 + 1) (λ z. omega arith), ← getD-set-other heads 0 (suc k) 1 0 (λ z. omega arith))
+      (rw e at
+      (link-turn (keysOf p groups) (set heads₀ 0 1) next₀ (set heads 0 1) next (length (p .needs)) i more (omega (arith, needs-total (a .owned)))
+      (omega (arith, keys-length p groups)) (omega (arith, a .next-room))
+      (omega (arith, length-set heads 0 1, key-below (a .owned) {row = i - 1} (omega arith), a .heads-zero .size)) (rw e (free k)) l))
+
+  module _ (heads next : List ℕ) (l : Chaining p groups 0 heads₀ next₀ heads next) (heads-size : length heads ≡ length heads₀) (next-size : length next ≡ length next₀) where
     first-keys : take (length (p .needs)) (keysOf p groups) ≡ keysOf p groups
     first-keys = take-all (length (p .needs)) (keysOf p groups) (omega (arith, keys-length p groups))
 
     row-read : (j x : ℕ) → j < length (p .needs) → x ≡ 0 + j → needAt needs x ≡ getD (p .needs) j (needRow 0 0 0)
     row-read j x h e = let same : x ≡ j = omega arith in rw same (sym (need-read (a .owned) j h))
 
-    along : (k : ℕ) → k ≤ moduleLimit → NeedsAlong needs next (getD heads k 0) (keep (λ (n : Need). eqb (keyOf p groups n) k) (p .needs))
-    along k h =
-        let zero-head = a .heads-zero .zeros k in
+    along : (k : ℕ) → 0 < k → k ≤ moduleLimit → NeedsAlong needs next (getD heads k 0) (keep (λ (n : Need). eqb (keyOf p groups n) k) (p .needs))
+    along zero some h = absurd (omega arith)
+    along (suc k) some h =
+        let head : getD (set heads 0 1) (suc k) 0 ≡ getD heads (suc k) 0 = getD-set-other heads 0 (suc k) 1 0 (λ e. omega arith) in
         record {
           count = length (p .needs);
           most = a .owned .accepted .needs-most;
           within = omega (arith, needs-total (a .owned));
           next-size = omega (arith, a .next-room);
           next-onward = λ i g. l .next-onward i (omega arith) g;
-          head-most = l .heads-onward k zero-head .1;
+          head-most = omega (arith, head, l .heads-onward (suc k) (free k) .1);
           along =
               ap (map (needAt needs))
-              (l .chains k (omega (arith, a .heads-zero .size)) zero-head ∙ ap (positionsFrom 0 (λ x. eqb x k)) first-keys)
-              ∙ positions-kept (keyOf p groups) (λ x. eqb x k) (needRow 0 0 0) (needAt needs) 0 (p .needs) row-read;
+              (ap (chain next (length (p .needs))) (sym head)
+              ∙ l .chains (suc k) (omega (arith, length-set heads 0 1, a .heads-zero .size)) (free k)
+              ∙ ap (positionsFrom 0 (λ x. eqb x (suc k))) first-keys)
+              ∙ positions-kept (keyOf p groups) (λ x. eqb x (suc k)) (needRow 0 0 0) (needAt needs) 0 (p .needs) row-read;
         }
 
     pub needs-chained : NeedsChained p groups needs next heads

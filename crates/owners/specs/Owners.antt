@@ -4,7 +4,7 @@ use mathlib.Core.Path.{_≡_}
 use mathlib.Core.Bool.{true, false}
 use mathlib.Core.List.{List, [], _∷_, map}
 use lib.Dec.{eqb}
-use lib.ListN.{length, getD}
+use lib.ListN.{length, getD, set}
 use Rattle.rules.specs.Lists.{elem, keep}
 use Rattle.rules.specs.Project.{Need, Project, moduleLimit, needLimit, itemRow, needRow, pairRows, needRows}
 use Rattle.rules.specs.Items.{itemAt}
@@ -90,13 +90,22 @@ pub record RowRoom (items owners : List ℕ) (row : ℕ) : Type 0 where
 unfoldable pub bothOwn : ℕ → ℕ → ℕ
 bothOwn a b = elim (eqb a b) [ true ↦ a | false ↦ 0 ]
 
+-- heads and entries with row i in front of the chain of key k, and on no chain where k is 0
+unfoldable pub headsWith : ℕ → ℕ → List ℕ → List ℕ
+headsWith zero i heads = heads
+headsWith (suc k) i heads = set heads (suc k) (i + 1)
+
+unfoldable pub nextWith : ℕ → ℕ → List ℕ → List ℕ → List ℕ
+nextWith zero i heads next = set next i 0
+nextWith (suc k) i heads next = set next i (getD heads (suc k) 0)
+
 -- What chaining them asks for besides: an array for the entries, and heads that are all 0.
 pub record NeedsChainable (p : Project) (groups : List (List ℕ)) (items needs owners heads next : List ℕ) : Type 0 where
   pub owned : Owned p groups items needs owners
   pub next-room : length (p .needs) ≤ length next
   pub heads-zero : Zeros (moduleLimit + 1) heads
 
--- What it gives: for each key the chain of its needs.
+-- What it gives: for each key but 0 the chain of its needs.
 pub record NeedsChained (p : Project) (groups : List (List ℕ)) (needs next′ heads′ : List ℕ) : Type 0 where
   pub heads-size : length heads′ ≡ moduleLimit + 1
-  pub chains : (k : ℕ) → k ≤ moduleLimit → NeedsAlong needs next′ (getD heads′ k 0) (keep (λ (n : Need). eqb (keyOf p groups n) k) (p .needs))
+  pub chains : (k : ℕ) → 0 < k → k ≤ moduleLimit → NeedsAlong needs next′ (getD heads′ k 0) (keep (λ (n : Need). eqb (keyOf p groups n) k) (p .needs))

@@ -1,12 +1,12 @@
 // The group that the items of each module belong to, and the needs of a project chained by the group that both their items belong to, so that a group
 // finds its needs without a scan of all.
-ghost use Prim.Native.Nat.{ℕ};
+ghost use Prim.Native.Nat.{ℕ, _<_};
 ghost use mathlib.Core.Path.{_≡_};
 ghost use mathlib.Core.List.{List};
 ghost use lib.ListN.{length};
 ghost use Rattle.rules.specs.Project.{Project};
 ghost use Rattle.laws.specs.Counting.{Below};
-ghost use Rattle.owners.specs.Owners.{orElse, Noted, Notable, OwnersShown, ownerAt, RowRoom, bothOwn, NeedsChainable, NeedsChained};
+ghost use Rattle.owners.specs.Owners.{orElse, Noted, Notable, OwnersShown, ownerAt, RowRoom, bothOwn, headsWith, nextWith, NeedsChainable, NeedsChained};
 
 // The first of two owners, where 0 stands for none.
 fn or_else(a: u8, b: u8) -> u8
@@ -60,8 +60,23 @@ fn both_own(a: u8, b: u8) -> u8
     if a == b { a } else { 0 }
 }
 
-// Chains the needs by the owner of both their items, and by 0 where that differs: heads[k] is one more than the first row with key k, next[row] one more
-// than the next row with its key, and 0 stands for none. The last row is linked first, so that the rows of a chain ascend.
+// Puts row i in front of the chain of key k, and on no chain where k is 0: no group asks for that one, and a store to its head for every such row would
+// make each row wait for the one before.
+fn link_row(heads: &mut [u16], next: &mut [u16], i: usize, k: usize)
+    requires { ⌜ (k < length (now heads)) × (i < length (now next)) × (i < 65535) ⌝ }
+    ensures heads { λ _. ⌜ now (heads .exit) ≡ headsWith k i (now (heads .entry)) ⌝ }
+    ensures next { λ _. ⌜ now (next .exit) ≡ nextWith k i (now (heads .entry)) (now (next .entry)) ⌝ }
+{
+    if k == 0 {
+        next[i] = 0;
+        return;
+    }
+    next[i] = heads[k];
+    heads[k] = (i + 1) as u16;
+}
+
+// Chains the needs by the owner of both their items: heads[k] is one more than the first row with key k, next[row] one more than the next row with its
+// key, and 0 stands for none. Needs whose items have different owners are on no chain. The last row is linked first, so that the rows of a chain ascend.
 pub fn chain_needs(items: &[u8], needs: &[u8], owners: &[u8], heads: &mut [u16], next: &mut [u16])
     requires { ⌜ ((p : Project) × (groups : List (List ℕ)) × NeedsChainable p groups (now items) (now needs) (now owners) (now heads) (now next)) ⌝ }
     ensures { λ _. ⌜ ((p : Project) (groups : List (List ℕ))
@@ -73,8 +88,6 @@ pub fn chain_needs(items: &[u8], needs: &[u8], owners: &[u8], heads: &mut [u16],
         i -= 1;
         let a = owner_of(items, owners, needs[3 * i]);
         let b = owner_of(items, owners, needs[3 * i + 1]);
-        let k = both_own(a, b) as usize;
-        next[i] = heads[k];
-        heads[k] = (i + 1) as u16;
+        link_row(heads, next, i, both_own(a, b) as usize);
     }
 }

@@ -3,9 +3,9 @@
 use Prim.Native.Nat.{ℕ, _+_, _-_, _/_, _≤_, _<_}
 use borrow.Author.Needs.{needs}
 use native.Mathlib.Omega.{arith}
-use mathlib.Core.Path.{_≡_, refl}
+use mathlib.Core.Path.{_≡_, refl, _∙_}
 use mathlib.Core.List.{List}
-use lib.ListN.{length, getD, length-set}
+use lib.ListN.{length, getD}
 use Rattle.rules.specs.Project.{Project, moduleLimit}
 use Rattle.owners.specs.Owners.{Owned, NeedsChainable}
 use Rattle.owners.specs.KeyLaws.{keysOf, Chaining, needs-total, dependant-room, dependency-room, key-read, key-below, chaining-start, chaining-next, needs-chained}
@@ -62,53 +62,43 @@ both-own-requires c κs = search needs
 
 -- with the key read: it is that of the row, and has a head
 abbrev head : tie.After-both-own Inv-loop μ-loop → tie.At-loop Inv-loop μ-loop
-head c = c .before .before .before .before .before .before
+head c = c .before .before .before .before .before .before .before .before
 
 key : (c : tie.After-both-own Inv-loop μ-loop) {p : Project} {groups : List (List ℕ)}
     → Owned p groups (entry (head c) .args .items .now) (entry (head c) .args .needs .now) (entry (head c) .args .owners .now)
     → getD (keysOf p groups) (head c .loop .i - 1) 0 ≡ c .both-own .result
-key c o = key-read o (omega arith) (c .before .before .before .owner-of .ensures) (c .before .owner-of2 .ensures) (c .both-own .ensures)
+key c o = key-read o (omega arith) (c .before .before .before .before .before .owner-of .ensures) (c .before .before .before .owner-of2 .ensures) (c .both-own .ensures)
 
 below : (c : tie.After-both-own Inv-loop μ-loop) → c .both-own .result < moduleLimit + 1
 below c = let o = owned (head c) in omega (arith, key c o, key-below o {row = head c .loop .i - 1} (omega arith))
 
-cast-k : tie.Need-cast-k Inv-loop μ-loop
-cast-k c = omega (arith, below c)
+cast-link-row : tie.Need-cast-link-row Inv-loop μ-loop
+cast-link-row c = omega (arith, below c)
 
-mul-next : tie.Need-mul-next Inv-loop μ-loop
-mul-next c = omega (arith, below c)
-
-slice-read-next : tie.Need-slice-read-next Inv-loop μ-loop
-slice-read-next c = omega (arith, below (c .before), entry (head (c .before)) .pre .2 .heads-zero .size)
-
-mul-next-2 : tie.Need-mul-next-2 Inv-loop μ-loop
-mul-next-2 c = omega arith
-
-slice-write-next : tie.Need-slice-write-next Inv-loop μ-loop
-slice-write-next c = omega (arith, needs-total (owned (head (c .before))), entry (head (c .before)) .pre .2 .next-room)
-
-add-heads : tie.Need-add-heads Inv-loop μ-loop
-add-heads c = omega arith
-
-cast-heads : tie.Need-cast-heads Inv-loop μ-loop
-cast-heads c = omega (arith, needs-total (owned (head (c .before))), owned (head (c .before)) .accepted .needs-most)
-
-mul-heads : tie.Need-mul-heads Inv-loop μ-loop
-mul-heads c = omega (arith, below (c .before))
-
-slice-write-heads : tie.Need-slice-write-heads Inv-loop μ-loop
-slice-write-heads c = slice-read-next c
+link-row-requires : tie.Need-link-row-requires Inv-loop μ-loop
+link-row-requires c κs =
+    let h = head c in
+    let o = owned h in (
+      omega (arith, below c, entry h .pre .2 .heads-zero .size, h .loop .inv .1),
+      omega (arith, needs-total o, entry h .pre .2 .next-room, h .loop .inv .2),
+      omega (arith, needs-total o, o .accepted .needs-most),
+    )
 
 loop-less : tie.Need-loop-less Inv-loop μ-loop
 loop-less c = omega arith
 
 loop-again : tie.Need-loop-again Inv-loop μ-loop
 loop-again c =
-    let h = head (c .before) .loop in (
+    let linked = c .before .before .before .before in
+    let read = linked .before in
+    let h = head read .loop in (
       omega arith,
-      simp length-set (h .inv .1),
-      simp length-set (h .inv .2),
-      λ p groups a. chaining-next a (h .inv .3 p groups a) (h .inv .1) (h .inv .2) (omega arith) (omega arith) (key (c .before) (a .owned)),
+      linked .link-row .kept .0 ∙ h .inv .1,
+      linked .link-row .kept .1 .0 ∙ h .inv .2,
+      λ p groups a.
+          rw (linked .link-row .ensures .0, linked .link-row .ensures .1)
+          (chaining-next a (read .both-own .result) (h .heads) (h .next) (h .inv .3 p groups a) (h .inv .1) (h .inv .2) (omega arith) (omega arith)
+          (key read (a .owned))),
     )
 
 same-length : tie.Need-same-length Inv-loop μ-loop
@@ -121,7 +111,7 @@ returns : tie.Need-returns Inv-loop μ-loop
 returns c =
     let h = c .before .loop in
     let none : h .i ≡ 0 = omega arith in
-    λ p groups a. needs-chained a (rw none at (h .inv .3 p groups a)) (h .inv .1) (h .inv .2)
+    λ p groups a. needs-chained a (h .heads) (h .next) (rw none at (h .inv .3 p groups a)) (h .inv .1) (h .inv .2)
 
 pub chain-needs-spec : {M : Type 1} → statement M
 chain-needs-spec =
@@ -139,15 +129,8 @@ chain-needs-spec =
     shared-slice-read-owner-of-2
     owner-of-requires-2
     both-own-requires
-    cast-k
-    mul-next
-    slice-read-next
-    mul-next-2
-    slice-write-next
-    add-heads
-    cast-heads
-    mul-heads
-    slice-write-heads
+    cast-link-row
+    link-row-requires
     loop-less
     loop-again
     same-length
