@@ -16,9 +16,8 @@ use Rattle.laws.specs.Splits.{WellFormed, true-inRange, rangeOf-holds, length-k
 use Rattle.laws.specs.ItemWalk.{dependenciesOf-∈, dependantsOf-∈}
 use Rattle.split.specs.declared.Split.{Split}
 use Rattle.stmt.specs.declared.walk.Ending.{Ending}
-use Rattle.stmt.specs.Walks.{Ended}
 use Rattle.lists.specs.Pairs.{chain}
-use Rattle.group.specs.Walking.{GroupWalkable, withNeeds, askedGroup, AskedNeeds, Asked, all-needs, no-need}
+use Rattle.group.specs.Walking.{EndedOn, GroupWalkable, withNeeds, askedGroup, AskedNeeds, Asked, all-needs, no-need}
 
 -- A group whose needs each lie within one range is walked as it is without needs.
 module _ (g : Group) (formed : WellFormed g) (within : (x d : ℕ) → DependsOn (g .needs) x d → sameRange g x d ≡ true) where
@@ -146,8 +145,8 @@ module _ {p : Project} {needs next-need : List ℕ} {first-need : ℕ} {modules 
       }
 
 -- The walk that these needs are laid out for ends as that of the group does.
-pub ends-asked : {p : Project} {modules section next : List ℕ} {head : ℕ} (k : AskedNeeds p modules section next head) (limit left made : ℕ) {n : ℕ}
-    {order : List ℕ} {e : Ending}
-    → Ended (run (itemWalk (askedGroup p modules (k .own))) limit left made (itemStart (askedGroup p modules (k .own)))) n order e
-    → Ended (run (itemWalk (groupOf p modules)) limit left made (itemStart (groupOf p modules))) n order e
-ends-asked k limit left made {n} {order} {e} = subst (λ (stop : Stop ItemState). Ended stop n order e) (k .same limit left made)
+pub ends-asked : {p : Project} {modules section next : List ℕ} {head : ℕ} (k : AskedNeeds p modules section next head) (limit left made : ℕ)
+    {entries n : ℕ} {order : List ℕ} {e : Ending}
+    → EndedOn entries (run (itemWalk (askedGroup p modules (k .own))) limit left made (itemStart (askedGroup p modules (k .own)))) n order e
+    → EndedOn entries (run (itemWalk (groupOf p modules)) limit left made (itemStart (groupOf p modules))) n order e
+ends-asked k limit left made {entries} {n} {order} {e} = subst (λ (stop : Stop ItemState). EndedOn entries stop n order e) (k .same limit left made)

@@ -1,7 +1,7 @@
 pub mod Walking
 pub mod AskedLaws
 pub mod WalkingLaws
-pub mod LongLaws
+pub mod LengthLaws
 pub mod Sorts
 pub mod Written
 pub mod WriteLaws

@@ -14,11 +14,10 @@ use Rattle.laws.specs.Splits.{wellFormed}
 use Rattle.laws.specs.ItemWalk.{run-finished}
 use Rattle.split.specs.declared.Split.{Split}
 use Rattle.stmt.specs.declared.walk.Ending.{Ending as WalkEnding}
-use Rattle.stmt.specs.Walks.{Ended}
 use Rattle.group.specs.declared.Ending.{Ending}
 use Rattle.layout.specs.Numbers.{Numberable, ItemsNumbered}
 use Rattle.layout.specs.NumberLaws.{numbering-below}
-use Rattle.group.specs.Walking.{GroupWalkable}
+use Rattle.group.specs.Walking.{EndedOn, GroupWalkable}
 use Rattle.group.specs.WalkingLaws.{items-most, items-are}
 use Rattle.group.specs.Written.{Endable}
 use Rattle.group.specs.Sorts.{Sortable, Scratch, Sorted}
@@ -29,8 +28,8 @@ runOf p modules left already = run (itemWalk (groupOf p modules)) itemListLimit 
 
 module _ {p : Project} {modules items needs next-need : List ℕ} {first-need : ℕ} {next heads out : List ℕ} {«at» : ℕ}
     (h : Sortable p modules items needs next-need first-need next heads out «at») where
-  pub numberable : {most many : ℕ} {rows kinds low high starts numbers seen weak reach paths moved placed from to next-out next-in heads-out heads-in «open» order list : List ℕ}
-      → Scratch most many rows kinds low high starts numbers seen weak reach paths moved placed from to next-out next-in heads-out heads-in «open» order list
+  pub numberable : {most many : ℕ} {rows kinds low high starts numbers seen weak reach paths moved placed from to next-out next-in heads-out heads-in «open» order : List ℕ}
+      → Scratch most many rows kinds low high starts numbers seen weak reach paths moved placed from to next-out next-in heads-out heads-in «open» order
       → Numberable p modules items next heads rows kinds low high starts numbers
   numberable a =
       record {
@@ -58,9 +57,9 @@ module _ {p : Project} {modules items needs next-need : List ℕ} {first-need : 
         omega (arith, below, row, h .accepted .items-most)
 
     -- the walk ended
-    module _ (left already : ℕ) {order : List ℕ} {e : WalkEnding} (d : Ended (runOf p modules left already) (s .count) order e)
+    module _ (left already : ℕ) {entries : ℕ} {order : List ℕ} {e : WalkEnding} (d : EndedOn entries (runOf p modules left already) (s .count) order e)
         (rows-size : length rows ≡ itemLimit) (order-size : length order ≡ itemLimit) where
-      pub endable : Endable (runOf p modules left already) e order rows (s .count) out «at»
+      pub endable : Endable entries (runOf p modules left already) e order rows (s .count) out «at»
       endable =
           record {
             ended = d;
@@ -76,9 +75,10 @@ module _ {p : Project} {modules items needs next-need : List ℕ} {first-need : 
 
       -- and its order given as rows
       pub sorts : {out′ : List ℕ} {r : Ending}
-          → ((stop : Stop ItemState) → Endable stop e order rows (s .count) out «at» → Sorted (orderOf (take (s .count) rows) stop) «at» out out′ r)
-          → Sorted (sortModules p modules itemListLimit left already) «at» out out′ r
+          → ((k : ℕ) (stop : Stop ItemState) → Endable k stop e order rows (s .count) out «at»
+          → Sorted k (orderOf (take (s .count) rows) stop) «at» out out′ r)
+          → Sorted entries (sortModules p modules itemListLimit left already) «at» out out′ r
       unfolding sortModules
       sorts {out′} {r} w =
-          subst (λ (l : List ℕ). Sorted (orderOf l (runOf p modules left already)) «at» out out′ r) (i .splits .numbered)
-          (w (runOf p modules left already) endable)
+          subst (λ (l : List ℕ). Sorted entries (orderOf l (runOf p modules left already)) «at» out out′ r) (i .splits .numbered)
+          (w entries (runOf p modules left already) endable)

@@ -1,28 +1,38 @@
 -- The walk of a group's items from its first list on. Assumes nothing.
-use Prim.Native.Nat.{ℕ, _+_, _*_, _/_, _≤_}
+use Prim.Native.Nat.{ℕ, _+_, _*_, _/_, _≤_, _<_}
 use mathlib.Core.Path.{_≡_}
 use mathlib.Core.List.{List}
 use lib.ListN.{length}
 use Rattle.rules.specs.Project.{Project, Need, itemLimit}
-use Rattle.rules.specs.Walk.{run}
-use Rattle.rules.specs.Items.{numbering, Group, groupOf, firstList, itemWalk, itemStart}
+use Rattle.rules.specs.Walk.{Stop, run}
+use Rattle.rules.specs.Items.{numbering, Group, groupOf, firstList, ItemState, itemWalk, itemStart}
 use Rattle.rules.specs.Calls.{itemListLimit}
 use Rattle.laws.specs.Accepted.{Accepted}
 use Rattle.laws.specs.Splits.{size, WellFormed, Giving}
 use Rattle.split.specs.declared.Split.{Split}
 use Rattle.split.specs.FirstLists.{Listable}
 use Rattle.graph.specs.Rows.{rowWords}
-use Rattle.stmt.specs.Walks.{Laid}
+use Rattle.stmt.specs.declared.walk.ItemWalk.{ItemWalk}
+use Rattle.stmt.specs.declared.walk.Ending.{Ending}
+use Rattle.stmt.specs.declared.walk.Ending.the-variants.{Crowded}
+use Rattle.stmt.specs.Walks.{Laid, Ended}
 use Rattle.layout.specs.Numbers.{ItemsNumbered}
 use Rattle.owners.specs.Owners.{NeedsAlong}
 use Rattle.layout.specs.Needs.{needsAmong, OwnNeeds}
 
--- What it asks for: the group laid out, its starts, and arrays for the walk's state.
+-- How a walk of n items ends on an array of so many entries: as the definition's run does, or where they are fewer than the limit, before a visit for
+-- which they may be too few.
+pub data EndedOn (entries : ℕ) (stop : Stop ItemState) (n : ℕ) (order : List ℕ) : Ending → Type 0 where
+  has-ended : {e : Ending} → Ended stop n order e → EndedOn entries stop n order e
+  was-crowded : {w : ItemWalk} {made : ℕ} → entries < itemListLimit → EndedOn entries stop n order (Crowded w made)
+
+-- What it asks for: the group laid out, its starts, and arrays for the walk's state, the list's of any size.
 pub record Walkable (g : Group) (to heads-out next-out from heads-in next-in paths weak kinds low high starts : List ℕ) (s : Split) (words : ℕ)
-    (placed moved «open» order list : List ℕ) : Type 0 where
+    (placed moved «open» order : List ℕ) : Type 0 where
   pub laid : Laid g to heads-out next-out from heads-in next-in paths weak kinds low high (64 * words)
-  pub listable : Listable g low high starts s list
+  pub listable : Listable g low high starts s (firstList g)
   pub count-is : s .count ≡ size g
+  pub uninjected-most : s .uninjected ≤ s .count
   pub placed-size : length placed ≡ rowWords
   pub moved-size : size g * words ≤ length moved
   pub open-size : length «open» ≡ itemLimit
@@ -67,15 +77,8 @@ wordsFor n = (n + 63) / 64
 abbrev pub Sized : ℕ → List ℕ → Type 0
 Sized n matrix = n * wordsFor n ≤ length matrix
 
--- An array in which the first list of every group fits, of a project with this many items: the bound of laws' firstList-most for 64 modules.
-pub record FirstRoom (items : ℕ) (list : List ℕ) : Type 0 where
-  pub more : ℕ
-  pub enough : 63 ≤ more
-  pub items-most : items ≤ 63 + more
-  pub size : 64 + (63 + more) + 63 * more ≤ length list
-
 -- The sizes of the arrays that laying out a group's needs and its walk use, for a project with this many items and needs.
-pub record WalkScratch (items needs : ℕ) (seen weak reach paths moved placed from to next-out next-in heads-out heads-in «open» order list : List ℕ)
+pub record WalkScratch (items needs : ℕ) (seen weak reach paths moved placed from to next-out next-in heads-out heads-in «open» order : List ℕ)
     : Type 0 where
   pub seen-size : Sized items seen
   pub seen-most : length seen ≤ 65536
@@ -92,4 +95,3 @@ pub record WalkScratch (items needs : ℕ) (seen weak reach paths moved placed f
   pub heads-in-size : length heads-in ≡ itemLimit
   pub open-size : length «open» ≡ itemLimit
   pub order-size : length order ≡ itemLimit
-  pub list-size : FirstRoom items list

@@ -1,31 +1,42 @@
 -- Laws of the walk of a group's items from its first list on. Assumes nothing.
-use Prim.Native.Nat.{ℕ, _+_, _*_, _≤_}
+use Prim.Native.Nat.{ℕ, _+_, _*_, _-_, _≤_}
 use native.Mathlib.Omega.{arith}
-use native.Mathlib.Nat.{le-trans, mul-le-mul}
+use native.Mathlib.Nat.{mul-le-mul}
 use mathlib.Core.Path.{_≡_, refl, sym, ap, subst, _∙_}
 use mathlib.Core.List.{List, []}
 use lib.ListN.{length, take}
 use Rattle.rules.specs.Lists.{any, elem}
 use Rattle.rules.specs.Project.{Project, Need, itemLimit}
-use Rattle.rules.specs.Items.{starts as startsOf, numbers as numbersIn, firstList, groupOf, kindOf, pathHolds, weightOf, Group, hasMoved, itemList, placedOf, itemStart}
-use Rattle.laws.specs.Counting.{below-length}
-use Rattle.laws.specs.Splits.{size, length-kinds, length-numbering, giving-below}
-use Rattle.laws.specs.FirstList.{firstList-most, firstList-limit}
+use Rattle.rules.specs.Walk.{run}
+use Rattle.rules.specs.Items.{starts as startsOf, numbers as numbersIn, firstList, groupOf, kindOf, pathHolds, weightOf, Group, hasMoved, ItemState, itemList, placedOf, itemWalk, itemStart}
+use Rattle.rules.specs.Calls.{itemListLimit}
+use Rattle.laws.specs.Splits.{size, length-kinds, length-numbering}
+use Rattle.laws.specs.FirstList.{firstList-limit}
 use Rattle.laws.specs.ItemWalk.{walked-start}
 use Rattle.lists.specs.Bits.{bitAt}
 use Rattle.lists.specs.Stacks.{stack}
 use Rattle.split.specs.declared.Split.{Split}
 use Rattle.split.specs.Shown.{Kinds, Ranges}
 use Rattle.split.specs.FirstLists.{Listable, FirstListed}
+use Rattle.split.specs.SplitLaws.{numbering-parts}
 use Rattle.split.specs.CallerLaws.{listable}
 use Rattle.graph.specs.Rows.{rowWords, Rows, cleared}
 use Rattle.graph.specs.RowLaws.{rows-cleared}
 use Rattle.graph.specs.Graph.{matrices, isMaybe}
 use Rattle.stmt.specs.declared.walk.ItemWalk.{ItemWalk}
-use Rattle.stmt.specs.Walks.{Laid, Row, Table, movedOf, Walking}
+use Rattle.stmt.specs.declared.walk.Ending.{Ending}
+use Rattle.stmt.specs.Walks.{Laid, Row, Table, movedOf, Walking, Ran, has-ended, was-crowded}
 use Rattle.layout.specs.Needs.{needsAmong}
 use Rattle.layout.specs.Layout.{LayRoom, NeedsLaid}
-use Rattle.group.specs.Walking.{Walkable, GroupWalkable, withNeeds, askedGroup, AskedNeeds, wordsFor, Sized, FirstRoom, WalkScratch}
+use Rattle.group.specs.Walking.{EndedOn, has-ended as ended-so, was-crowded as crowded-so, Walkable, GroupWalkable, withNeeds, askedGroup, AskedNeeds, wordsFor, Sized, WalkScratch}
+
+-- What a run comes to, by the size of its list's array.
+pub ends-on : {g : Group} {to heads-out next-out from heads-in next-in paths weak kinds low high : List ℕ} {width n allowance already : ℕ}
+    {first : ItemState} {placed moved «open» order list : List ℕ} {entries : ℕ} {e : Ending} → length list ≡ entries
+    → Ran g to heads-out next-out from heads-in next-in paths weak kinds low high width n allowance already first placed moved «open» order list e
+    → EndedOn entries (run (itemWalk g) itemListLimit (allowance - already) already first) n order e
+ends-on size (has-ended d) = ended-so d
+ends-on size (was-crowded short h r) = crowded-so (omega arith)
 
 -- A cleared row has no bit, and a cleared table no pair.
 row-none : (n : ℕ) (placed : List ℕ) → n ≤ 64 * rowWords → length placed ≡ rowWords → {placed′ : List ℕ} → placed′ ≡ cleared rowWords placed
@@ -53,8 +64,8 @@ table-none {n} words moved h most room e same =
     }
 
 module _ {g : Group} {to heads-out next-out from heads-in next-in paths weak kinds low high starts : List ℕ} {s : Split} {words : ℕ}
-    {placed moved «open» order list : List ℕ}
-    (h : Walkable g to heads-out next-out from heads-in next-in paths weak kinds low high starts s words placed moved «open» order list) where
+    {placed moved «open» order : List ℕ}
+    (h : Walkable g to heads-out next-out from heads-in next-in paths weak kinds low high starts s words placed moved «open» order) where
   count-most : s .count ≤ itemLimit
   count-most = omega (arith, h .count-is, h .laid .paths-shown .within, h .laid .paths-shown .most)
 
@@ -66,13 +77,26 @@ module _ {g : Group} {to heads-out next-out from heads-in next-in paths weak kin
   pub clearable : s .count * words ≤ length moved
   clearable = rw (h .count-is) (h .moved-size)
 
+  -- an array in which the first list fits
+  pub listable-on : {list : List ℕ} → length (firstList g) ≤ length list → Listable g low high starts s list
+  listable-on fits =
+      let l = h .listable in
+      record {
+        ranges-shown = l .ranges-shown;
+        starts-shown = l .starts-shown;
+        starts-below = l .starts-below;
+        injected-behind = l .injected-behind;
+        most = l .most;
+        room = fits;
+      }
+
   -- the first state of the walk
-  pub walking-first : {placed′ moved′ list′ : List ℕ} {w : ItemWalk} {end : ℕ} → placed′ ≡ cleared rowWords placed → length placed′ ≡ length placed
+  pub walking-first : {list placed′ moved′ list′ : List ℕ} {w : ItemWalk} {end : ℕ} → length (firstList g) ≤ length list → placed′ ≡ cleared rowWords placed → length placed′ ≡ length placed
       → moved′ ≡ cleared (s .count * words) moved → length moved′ ≡ length moved → FirstListed g list list′ end → length list′ ≡ length list
       → w ≡ record { end = end; placed = 0 }
       → Walking g to heads-out next-out from heads-in next-in paths weak kinds low high (64 * words) placed′ moved′ «open» order list′ w (itemStart g)
   unfolding itemStart itemList placedOf movedOf stack
-  walking-first e placed-same f moved-same l list-same start =
+  walking-first fits e placed-same f moved-same l list-same start =
       record {
         laid = h .laid;
         room = omega (arith, h .count-is, count-most, h .open-size);
@@ -83,7 +107,7 @@ module _ {g : Group} {to heads-out next-out from heads-in next-in paths weak kin
                   record {
                     shown = l .shown;
                     within = omega (arith, l .count, h .first-most);
-                    held = omega (arith, l .count, h .listable .room);
+                    held = omega (arith, l .count);
                   };
               items =
                   record {
@@ -118,14 +142,6 @@ module _ {p : Project} {needs next-need : List ℕ} {first-need : ℕ} {modules 
   own-rows : (matrix : List ℕ) → Sized (length (p .items)) matrix → Rows (wordsFor (s .count)) (s .count) matrix
   own-rows matrix e = matrix-rows (s .count) (length (p .items)) matrix items-few (h .accepted .items-most) e
 
-  first-fits : {list : List ℕ} → FirstRoom (length (p .items)) list → length (firstList (groupOf p modules)) ≤ length list
-  first-fits r =
-      let few = below-length (h .giving .once) (giving-below (λ i m. h .accepted .item-rows i m .module-below) (h .giving)) in
-      le-trans
-      (firstList-most p modules (h .giving) 63 (r .more) (r .enough) (omega (arith, few, h .accepted .modules-most))
-      (omega (arith, r .items-most, length-numbering p (h .giving .once))))
-      (r .size)
-
   -- the kinds and ranges, of the group with other needs
   kinds-kept : {other : List Need} → Kinds (withNeeds (groupOf p modules) other) kinds
   unfolding kindOf
@@ -142,8 +158,8 @@ module _ {p : Project} {needs next-need : List ℕ} {first-need : ℕ} {modules 
 
   -- the needs that the walk asks for
   module _ {head : ℕ} (k : AskedNeeds p modules needs next-need head)
-      {seen weak reach paths moved placed from to next-out next-in heads-out heads-in «open» order list : List ℕ}
-      (a : WalkScratch (length (p .items)) (length (p .needs)) seen weak reach paths moved placed from to next-out next-in heads-out heads-in «open» order list) where
+      {seen weak reach paths moved placed from to next-out next-in heads-out heads-in «open» order : List ℕ}
+      (a : WalkScratch (length (p .items)) (length (p .needs)) seen weak reach paths moved placed from to next-out next-in heads-out heads-in «open» order) where
     abbrev group : Group
     group = askedGroup p modules (k .own)
 
@@ -195,11 +211,11 @@ module _ {p : Project} {needs next-need : List ℕ} {first-need : ℕ} {modules 
 
       pub walkable : {moved′ part : List ℕ} → length moved′ ≡ length moved → part ≡ take (length modules) starts
           → Walkable group to′ heads-out′ next-out′ from′ heads-in′ next-in′ paths′ weak′ kinds low high part s (wordsFor (s .count))
-          placed moved′ «open» order list
+          placed moved′ «open» order
       unfolding firstList startsOf kindOf numbersIn
       walkable same e =
-          let j : Listable (groupOf p modules) low high _ s list =
-          listable (h .accepted) (h .giving) (h .numbered .splits) e (first-fits (a .list-size)) in
+          let j : Listable (groupOf p modules) low high _ s (firstList (groupOf p modules)) =
+          listable (h .accepted) (h .giving) (h .numbered .splits) e (omega arith) in
           record {
             laid = group-laid;
             listable =
@@ -212,6 +228,7 @@ module _ {p : Project} {needs next-need : List ℕ} {first-need : ℕ} {modules 
                   room = j .room;
                 };
             count-is = items-are;
+            uninjected-most = omega (arith, h .numbered .splits .count-is, h .numbered .splits .uninjected-is, numbering-parts p modules);
             placed-size = a .placed-size;
             moved-size = rw (same, ← items-are) (own-rows moved (a .moved-size) .size);
             open-size = a .open-size;

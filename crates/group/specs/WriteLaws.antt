@@ -8,6 +8,7 @@ use lib.ListN.{length, length-map, length-reverse, getD, take, drop, set, drop-o
 use lib.Seq.{sets, length-take-le, drop-cons, getD-take}
 use Rattle.rules.specs.Walk.{Stop, finished, spent, full}
 use Rattle.rules.specs.Items.{ItemState, placedOf, orderOf}
+use Rattle.rules.specs.Calls.{itemListLimit}
 use Rattle.laws.specs.Lists.{_∈_, ∈-self, reverse-∈}
 use Rattle.laws.specs.Orders.{getD-∈}
 use Rattle.lists.specs.Stacks.{stack}
@@ -15,11 +16,11 @@ use Rattle.lists.specs.StackLaws.{stack-length, stack-reverse}
 use Rattle.stmt.specs.declared.walk.Ending.{Ending as WalkEnding}
 use Rattle.stmt.specs.declared.walk.Ending.the-variants.{Finished as WalkFinished, Spent as WalkSpent, Full as WalkFull, Crowded as WalkCrowded}
 use Rattle.stmt.specs.declared.walk.ItemWalk.{ItemWalk}
-use Rattle.group.specs.LongLaws.{never-crowds}
 use Rattle.stmt.specs.Walks.{Ended, has-finished as walk-finished, was-spent as walk-spent, list-was-full}
-use Rattle.group.specs.declared.Ending.the-variants.{Finished, Spent, Full}
+use Rattle.group.specs.declared.Ending.the-variants.{Finished, Spent, Full, Crowded}
+use Rattle.group.specs.Walking.{EndedOn, has-ended, was-crowded as walk-crowded}
 use Rattle.group.specs.Written.{rowsOf, WriteRoom, Endable}
-use Rattle.group.specs.Sorts.{Sorted, has-finished, was-spent, was-full}
+use Rattle.group.specs.Sorts.{Sorted, has-finished, was-spent, was-full, was-crowded}
 
 module _ (rows order out : List ℕ) (n «at» j : ℕ) where
   -- with one row more
@@ -37,24 +38,35 @@ module _ (rows order out : List ℕ) (n «at» j : ℕ) where
       rw (drop-of-length-le (take n order) size)
 
 -- What the walk's ending says.
-module _ {stop : Stop ItemState} {n made : ℕ} {order : List ℕ} {e : WalkEnding} where
-  walk-has-finished : e ≡ WalkFinished made → Ended stop n order e → (s : ItemState) × (stop ≡ finished s made) × (stack order n ≡ placedOf s)
-  walk-has-finished f h = go (subst (λ (e : WalkEnding). Ended stop n order e) f h)
+module _ {entries : ℕ} {stop : Stop ItemState} {n made : ℕ} {order : List ℕ} {e : WalkEnding} where
+  walk-has-finished : e ≡ WalkFinished made → EndedOn entries stop n order e
+      → (s : ItemState) × (stop ≡ finished s made) × (stack order n ≡ placedOf s)
+  walk-has-finished f h = go (subst (EndedOn entries stop n order) f h)
     where
-      go : Ended stop n order (WalkFinished made) → (s : ItemState) × (stop ≡ finished s made) × (stack order n ≡ placedOf s)
-      go (walk-finished s a b) = (s, a, b)
+      go : EndedOn entries stop n order (WalkFinished made) → (s : ItemState) × (stop ≡ finished s made) × (stack order n ≡ placedOf s)
+      go (has-ended (walk-finished s a b)) = (s, a, b)
 
-  walk-was-spent : e ≡ WalkSpent made → Ended stop n order e → stop ≡ spent made
-  walk-was-spent f h = go (subst (λ (e : WalkEnding). Ended stop n order e) f h)
+  walk-was-spent : e ≡ WalkSpent made → EndedOn entries stop n order e → stop ≡ spent made
+  walk-was-spent f h = go (subst (EndedOn entries stop n order) f h)
     where
-      go : Ended stop n order (WalkSpent made) → stop ≡ spent made
-      go (walk-spent a) = a
+      go : EndedOn entries stop n order (WalkSpent made) → stop ≡ spent made
+      go (has-ended (walk-spent a)) = a
 
-  walk-was-full : e ≡ WalkFull made → Ended stop n order e → stop ≡ full made
-  walk-was-full f h = go (subst (λ (e : WalkEnding). Ended stop n order e) f h)
+  walk-was-full : e ≡ WalkFull made → EndedOn entries stop n order e → stop ≡ full made
+  walk-was-full f h = go (subst (EndedOn entries stop n order) f h)
     where
-      go : Ended stop n order (WalkFull made) → stop ≡ full made
-      go (list-was-full a) = a
+      go : EndedOn entries stop n order (WalkFull made) → stop ≡ full made
+      go (has-ended (list-was-full a)) = a
+
+  walk-was-crowded : {w : ItemWalk} → e ≡ WalkCrowded w made → EndedOn entries stop n order e → entries < itemListLimit
+  walk-was-crowded {w} f h = go (subst (EndedOn entries stop n order) f h)
+    where
+      none : Ended stop n order (WalkCrowded w made) → ⊥
+      none = elim [ ]
+
+      go : EndedOn entries stop n order (WalkCrowded w made) → entries < itemListLimit
+      go (has-ended d) = absurd (none d)
+      go (walk-crowded h) = h
 
 -- Two functions that agree on the members of a list make one list of it.
 map-members : (f g : ℕ → ℕ) (l : List ℕ) → ((x : ℕ) → x ∈ l → f x ≡ g x) → map f l ≡ map g l
@@ -62,18 +74,18 @@ map-members f g [] h = refl
 map-members f g (x ∷ l) h = rw (h x ∈-self, map-members f g l (λ y m. h y (List·Memᴰ·tail m)))
 
 -- A walk that has ended, and its order as rows.
-module _ {stop : Stop ItemState} {e : WalkEnding} {order rows : List ℕ} {n : ℕ} {out : List ℕ} {«at» : ℕ} (h : Endable stop e order rows n out «at»)
-    {made : ℕ} where
-  pub ends-spent : e ≡ WalkSpent made → Sorted (orderOf (take n rows) stop) «at» out out (Spent made)
+module _ {entries : ℕ} {stop : Stop ItemState} {e : WalkEnding} {order rows : List ℕ} {n : ℕ} {out : List ℕ} {«at» : ℕ}
+    (h : Endable entries stop e order rows n out «at») {made : ℕ} where
+  pub ends-spent : e ≡ WalkSpent made → Sorted entries (orderOf (take n rows) stop) «at» out out (Spent made)
   unfolding orderOf
   ends-spent f = was-spent (ap (orderOf (take n rows)) (walk-was-spent f (h .ended))) refl
 
-  pub ends-full : e ≡ WalkFull made → Sorted (orderOf (take n rows) stop) «at» out out (Full made)
+  pub ends-full : e ≡ WalkFull made → Sorted entries (orderOf (take n rows) stop) «at» out out (Full made)
   unfolding orderOf
   ends-full f = was-full (ap (orderOf (take n rows)) (walk-was-full f (h .ended))) refl
 
-  pub never-crowded-end : {w : ItemWalk} → e ≡ WalkCrowded w made → ⊥
-  never-crowded-end f = never-crowds (subst (Ended stop n order) f (h .ended))
+  pub ends-crowded : {w : ItemWalk} → e ≡ WalkCrowded w made → Sorted entries (orderOf (take n rows) stop) «at» out out Crowded
+  ends-crowded f = was-crowded (walk-was-crowded f (h .ended)) refl
 
   module _ (f : e ≡ WalkFinished made) where
     last : (s : ItemState) × (stop ≡ finished s made) × (stack order n ≡ placedOf s)
@@ -102,7 +114,7 @@ module _ {stop : Stop ItemState} {e : WalkEnding} {order rows : List ℕ} {n : �
         }
 
     pub ends-finished : {out′ : List ℕ} → out′ ≡ sets out «at» (rowsOf rows (take n order))
-        → Sorted (orderOf (take n rows) stop) «at» out out′ (Finished («at» + n) made)
+        → Sorted entries (orderOf (take n rows) stop) «at» out out′ (Finished («at» + n) made)
     unfolding orderOf
     ends-finished {out′} w =
         let sorted : List ℕ = rowsOf (take n rows) (reverse (placedOf (last .0))) in
@@ -112,5 +124,5 @@ module _ {stop : Stop ItemState} {e : WalkEnding} {order rows : List ℕ} {n : �
         let same : rowsOf rows (take n order) ≡ sorted =
         map-members (λ x. getD rows x 0) (λ x. getD (take n rows) x 0) (take n order) (λ x m. sym (getD-take n rows x 0 (number x m)))
         ∙ ap (rowsOf (take n rows)) taken in
-        subst (λ (k : ℕ). Sorted (orderOf (take n rows) stop) «at» out out′ (Finished («at» + k) made)) many
+        subst (λ (k : ℕ). Sorted entries (orderOf (take n rows) stop) «at» out out′ (Finished («at» + k) made)) many
         (has-finished sorted (ap (orderOf (take n rows)) (last .1)) (w ∙ ap (sets out «at») same))

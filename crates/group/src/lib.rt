@@ -11,11 +11,12 @@ mod written;
 
 use layout::numbers;
 
-// How a sort stopped, with the end of the rows written and the visits made.
+// How a sort stopped, with the end of the rows written and the visits made; or that the list may not fit its array.
 pub enum Ending {
     Finished(usize, u32),
     Spent(u32),
     Full(u32),
+    Crowded,
 }
 
 // Sorts the kept items of a group's modules, whose needs stand along the chain from `first_need`, `already` being the visits made before: the walk's
@@ -60,14 +61,15 @@ pub fn sort_stmts(
         × Sortable p (now modules) (now items) (now needs) (now «next_need») «first_need» (now next) (now heads) (now out) «at»
         × Scratch (length (p .items)) (length (p .needs)) (now rows) (now kinds) (now low) (now high) (now starts) (now numbers) (now seen)
         (now weak) (now reach) (now paths) (now moved) (now placed) (now from) (now to) (now «next_out») (now «next_in») (now «heads_out»)
-        (now «heads_in») (now «open») (now order) (now list)) ⌝ }
+        (now «heads_in») (now «open») (now order)) ⌝ }
     ensures { λ r. ⌜ ((p : Project) → Sortable p (now (modules .entry)) (now (items .entry)) (now (needs .entry))
         (now («next_need» .entry)) «first_need» (now (next .entry)) (now (heads .entry)) (now (out .entry)) «at»
         → Scratch (length (p .items)) (length (p .needs)) (now (rows .entry)) (now (kinds .entry)) (now (low .entry)) (now (high .entry))
         (now (starts .entry)) (now (numbers .entry)) (now (seen .entry)) (now (weak .entry)) (now (reach .entry)) (now (paths .entry))
         (now (moved .entry)) (now (placed .entry)) (now (from .entry)) (now (to .entry)) (now («next_out» .entry)) (now («next_in» .entry))
-        (now («heads_out» .entry)) (now («heads_in» .entry)) (now («open» .entry)) (now (order .entry)) (now (list .entry))
-        → Sorted (sortModules p (now (modules .entry)) itemListLimit (allowance - already) already) «at» (now (out .entry)) (now (out .exit)) r) ⌝ }
+        (now («heads_out» .entry)) (now («heads_in» .entry)) (now («open» .entry)) (now (order .entry))
+        → Sorted (length (now (list .entry))) (sortModules p (now (modules .entry)) itemListLimit (allowance - already) already) «at»
+        (now (out .entry)) (now (out .exit)) r) ⌝ }
 {
     let s = numbers::number_items(
         items,

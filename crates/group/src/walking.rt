@@ -1,15 +1,13 @@
 // The walk of a group's items from its first list on.
 ghost use Prim.Native.Nat.{_-_, _≤_};
 ghost use mathlib.Core.Path.{_≡_};
-ghost use mathlib.Core.List.{_++_};
-ghost use lib.ListN.{length, take, drop};
+ghost use lib.ListN.{length};
 ghost use Rattle.rules.specs.Walk.{run as runs};
 ghost use Rattle.rules.specs.Project.{Project};
-ghost use Rattle.rules.specs.Items.{Group, groupOf, ItemState, itemWalk, itemStart};
-ghost use Rattle.laws.specs.Splits.{size};
+ghost use Rattle.rules.specs.Items.{Group, groupOf, firstList, itemWalk, itemStart};
 ghost use Rattle.rules.specs.Calls.{itemListLimit};
-ghost use Rattle.stmt.specs.Walks.{Walking, Ended};
-ghost use Rattle.group.specs.Walking.{Walkable, GroupWalkable, Asked, WalkScratch};
+ghost use Rattle.split.specs.FirstLists.{Listable};
+ghost use Rattle.group.specs.Walking.{EndedOn, Walkable, GroupWalkable, Asked, WalkScratch};
 use graph::rows;
 use layout::lay_needs;
 use split::Split;
@@ -21,167 +19,25 @@ use stmt::walk::run;
 // The words of a row of bits for all items.
 const ITEM_WORDS: usize = 4;
 
-// Copies the first n entries of a list to a longer array.
-fn copy_list(list: &[u16], n: usize, long: &mut [u16])
-    requires { ⌜ (n ≤ length (now list)) × (n ≤ length (now long)) ⌝ }
-    ensures { λ _. ⌜ now (long .exit) ≡ take n (now (list .entry)) ++ drop n (now (long .entry)) ⌝ }
+// The length of a group's first list: its starts, the ranges that hold them and the injected items.
+fn first_len(low: &[u16], high: &[u16], starts: &[u16], s: Split) -> usize
+    requires { ⌜ s .uninjected ≤ s .count ⌝ }
+    requires { ⌜ ((g : Group) × Listable g (now low) (now high) (now starts) s (firstList g) × (length (firstList g) ≤ itemListLimit)) ⌝ }
+    ensures { λ r. ⌜ ((g : Group) → Listable g (now (low .entry)) (now (high .entry)) (now (starts .entry)) s (firstList g)
+        → r ≡ length (firstList g)) ⌝ }
 {
+    let mut n = starts.len() + (s.count - s.uninjected);
     let mut i = 0;
-    while i < n {
-        long[i] = list[i];
+    while i < starts.len() {
+        let x = starts[i] as usize;
+        n += high[x] as usize - low[x] as usize;
         i += 1;
     }
+    n
 }
 
-// Goes on with a walk whose list may not fit its array: on an array of the limit's size.
-fn walk_on(
-    to: &[u16],
-    heads_out: &[u16],
-    next_out: &[u16],
-    from: &[u16],
-    heads_in: &[u16],
-    next_in: &[u16],
-    paths: &[u64],
-    weak: &[u64],
-    kinds: &[u8],
-    low: &[u16],
-    high: &[u16],
-    width: usize,
-    placed: &mut [u64],
-    moved: &mut [u64],
-    open: &mut [u16],
-    order: &mut [u16],
-    list: &[u16],
-    n: usize,
-    w: ItemWalk,
-    allowance: u32,
-    made: u32,
-) -> Ending
-    requires { ⌜ made ≤ allowance ⌝ }
-    requires { ⌜ ((g : Group) × (s : ItemState) × (n ≡ size g) × Walking g (now to) (now «heads_out») (now «next_out») (now from) (now «heads_in»)
-        (now «next_in») (now paths) (now weak) (now kinds) (now low) (now high) width (now placed) (now moved) (now «open») (now order)
-        (now list) w s) ⌝ }
-    ensures { λ r. ⌜ ((g : Group) (s : ItemState) → n ≡ size g → Walking g (now (to .entry)) (now («heads_out» .entry)) (now («next_out» .entry))
-        (now (from .entry)) (now («heads_in» .entry)) (now («next_in» .entry)) (now (paths .entry)) (now (weak .entry)) (now (kinds .entry))
-        (now (low .entry)) (now (high .entry)) width (now (placed .entry)) (now (moved .entry)) (now («open» .entry)) (now (order .entry))
-        (now (list .entry)) w s
-        → Ended (runs (itemWalk g) itemListLimit (allowance - made) made s) n (now (order .exit)) r) ⌝ }
-{
-    let mut long = [0u16; ItemWalk::LIST];
-    copy_list(list, w.end, &mut long);
-    run(
-        to,
-        heads_out,
-        next_out,
-        from,
-        heads_in,
-        next_in,
-        paths,
-        weak,
-        kinds,
-        low,
-        high,
-        width,
-        placed,
-        moved,
-        open,
-        order,
-        &mut long,
-        n,
-        w,
-        allowance,
-        made,
-    )
-}
-
-// Visits until all n items are placed, the allowance is spent or the list is full, whatever the size of the list's array. Where the walk has finished,
-// `order` holds the numbers in their order; else it is left free, and so is the rest of the state.
-fn walk_all(
-    to: &[u16],
-    heads_out: &[u16],
-    next_out: &[u16],
-    from: &[u16],
-    heads_in: &[u16],
-    next_in: &[u16],
-    paths: &[u64],
-    weak: &[u64],
-    kinds: &[u8],
-    low: &[u16],
-    high: &[u16],
-    width: usize,
-    placed: &mut [u64],
-    moved: &mut [u64],
-    open: &mut [u16],
-    order: &mut [u16],
-    list: &mut [u16],
-    n: usize,
-    start: ItemWalk,
-    allowance: u32,
-    already: u32,
-) -> Ending
-    requires { ⌜ already ≤ allowance ⌝ }
-    requires { ⌜ ((g : Group) × (s : ItemState) × (n ≡ size g) × Walking g (now to) (now «heads_out») (now «next_out») (now from) (now «heads_in»)
-        (now «next_in») (now paths) (now weak) (now kinds) (now low) (now high) width (now placed) (now moved) (now «open») (now order)
-        (now list) start s) ⌝ }
-    ensures { λ r. ⌜ ((g : Group) (s : ItemState) → n ≡ size g → Walking g (now (to .entry)) (now («heads_out» .entry)) (now («next_out» .entry))
-        (now (from .entry)) (now («heads_in» .entry)) (now («next_in» .entry)) (now (paths .entry)) (now (weak .entry)) (now (kinds .entry))
-        (now (low .entry)) (now (high .entry)) width (now (placed .entry)) (now (moved .entry)) (now («open» .entry)) (now (order .entry))
-        (now (list .entry)) start s
-        → Ended (runs (itemWalk g) itemListLimit (allowance - already) already s) n (now (order .exit)) r) ⌝ }
-{
-    let e = run(
-        to,
-        heads_out,
-        next_out,
-        from,
-        heads_in,
-        next_in,
-        paths,
-        weak,
-        kinds,
-        low,
-        high,
-        width,
-        placed,
-        moved,
-        open,
-        order,
-        list,
-        n,
-        start,
-        allowance,
-        already,
-    );
-    let Ending::Crowded(w, made) = e else {
-        return e;
-    };
-    walk_on(
-        to,
-        heads_out,
-        next_out,
-        from,
-        heads_in,
-        next_in,
-        paths,
-        weak,
-        kinds,
-        low,
-        high,
-        width,
-        placed,
-        moved,
-        open,
-        order,
-        list,
-        n,
-        w,
-        allowance,
-        made,
-    )
-}
-
-// Walks the items of a group from its first list on, as the definition's run does. Where it has finished, `order` holds the numbers in their order;
-// else it is left free, and so is the rest of the state.
+// Walks the items of a group from its first list on, as the definition's run does, unless the list may not fit its array. Where it has finished, `order`
+// holds the numbers in their order; else it is left free, and so is the rest of the state.
 fn walk_items(
     to: &[u16],
     heads_out: &[u16],
@@ -207,19 +63,24 @@ fn walk_items(
 ) -> Ending
     requires { ⌜ already ≤ allowance ⌝ }
     requires { ⌜ ((g : Group) × Walkable g (now to) (now «heads_out») (now «next_out») (now from) (now «heads_in») (now «next_in») (now paths)
-        (now weak) (now kinds) (now low) (now high) (now starts) s words (now placed) (now moved) (now «open») (now order) (now list)) ⌝ }
+        (now weak) (now kinds) (now low) (now high) (now starts) s words (now placed) (now moved) (now «open») (now order)) ⌝ }
     ensures { λ r. ⌜ ((g : Group) → Walkable g (now (to .entry)) (now («heads_out» .entry)) (now («next_out» .entry)) (now (from .entry))
         (now («heads_in» .entry)) (now («next_in» .entry)) (now (paths .entry)) (now (weak .entry)) (now (kinds .entry)) (now (low .entry))
         (now (high .entry)) (now (starts .entry)) s words (now (placed .entry)) (now (moved .entry)) (now («open» .entry)) (now (order .entry))
-        (now (list .entry))
-        → Ended (runs (itemWalk g) itemListLimit (allowance - already) already (itemStart g)) (s .count) (now (order .exit)) r) ⌝ }
+        → EndedOn (length (now (list .entry))) (runs (itemWalk g) itemListLimit (allowance - already) already (itemStart g)) (s .count)
+        (now (order .exit)) r) ⌝ }
 {
+    let first = first_len(low, high, starts, s);
+    if list.len() < first {
+        // No caller goes on from this state.
+        return Ending::Crowded(ItemWalk::new(0), already);
+    }
     let n = s.count;
     rows::clear_words(placed, ITEM_WORDS);
     rows::clear_words(moved, n * words);
     let end = first_list(low, high, starts, s, list);
     let start = ItemWalk::new(end);
-    walk_all(
+    run(
         to,
         heads_out,
         next_out,
@@ -294,15 +155,14 @@ pub fn walk_group(
         × GroupWalkable p (now needs) (now «next_need») «first_need» (now modules) (now rows) (now kinds) (now low) (now high) (now starts)
         (now numbers) s
         × WalkScratch (length (p .items)) (length (p .needs)) (now seen) (now weak) (now reach) (now paths) (now moved) (now placed) (now from) (now to)
-        (now «next_out») (now «next_in») (now «heads_out») (now «heads_in») (now «open») (now order) (now list)) ⌝ }
+        (now «next_out») (now «next_in») (now «heads_out») (now «heads_in») (now «open») (now order)) ⌝ }
     ensures { λ r. ⌜ ((p : Project) → GroupWalkable p (now (needs .entry)) (now («next_need» .entry)) «first_need» (now (modules .entry))
         (now (rows .entry)) (now (kinds .entry)) (now (low .entry)) (now (high .entry)) (now (starts .entry)) (now (numbers .entry)) s
         → WalkScratch (length (p .items)) (length (p .needs)) (now (seen .entry)) (now (weak .entry)) (now (reach .entry)) (now (paths .entry))
         (now (moved .entry)) (now (placed .entry)) (now (from .entry)) (now (to .entry)) (now («next_out» .entry)) (now («next_in» .entry))
-        (now («heads_out» .entry)) (now («heads_in» .entry)) (now («open» .entry)) (now (order .entry)) (now (list .entry))
-        → Ended (runs (itemWalk (groupOf p (now (modules .entry)))) itemListLimit (allowance - already) already (itemStart (groupOf p
-        (now (modules .entry)))))
-        (s .count) (now (order .exit)) r) ⌝ }
+        (now («heads_out» .entry)) (now («heads_in» .entry)) (now («open» .entry)) (now (order .entry))
+        → EndedOn (length (now (list .entry))) (runs (itemWalk (groupOf p (now (modules .entry)))) itemListLimit (allowance - already) already
+        (itemStart (groupOf p (now (modules .entry))))) (s .count) (now (order .exit)) r) ⌝ }
 {
     let n = s.count;
     let words = (n + 63) / 64;

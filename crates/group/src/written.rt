@@ -1,4 +1,5 @@
 // The rows of a group's items, written in the order of its walk.
+ghost use Prim.Native.Nat.{ℕ};
 ghost use mathlib.Core.Path.{_≡_};
 ghost use Rattle.rules.specs.Walk.{Stop};
 ghost use Rattle.rules.specs.Items.{ItemState, orderOf};
@@ -31,9 +32,9 @@ pub fn end_sort(
     out: &mut [u8],
     at: usize,
 ) -> Ending
-    requires { ⌜ ((stop : Stop ItemState) × Endable stop e (now order) (now rows) n (now out) «at») ⌝ }
-    ensures { λ r. ⌜ ((stop : Stop ItemState) → Endable stop e (now (order .entry)) (now (rows .entry)) n (now (out .entry)) «at»
-        → Sorted (orderOf (take n (now (rows .entry))) stop) «at» (now (out .entry)) (now (out .exit)) r) ⌝ }
+    requires { ⌜ ((entries : ℕ) × (stop : Stop ItemState) × Endable entries stop e (now order) (now rows) n (now out) «at») ⌝ }
+    ensures { λ r. ⌜ ((entries : ℕ) (stop : Stop ItemState) → Endable entries stop e (now (order .entry)) (now (rows .entry)) n (now (out .entry)) «at»
+        → Sorted entries (orderOf (take n (now (rows .entry))) stop) «at» (now (out .entry)) (now (out .exit)) r) ⌝ }
 {
     match e {
         walk::Ending::Spent(made) => Ending::Spent(made),
@@ -42,7 +43,6 @@ pub fn end_sort(
             write_rows(order, rows, n, out, at);
             Ending::Finished(at + n, made)
         }
-        // No walk ends so.
-        walk::Ending::Crowded(_, made) => Ending::Spent(made),
+        walk::Ending::Crowded(_, _) => Ending::Crowded,
     }
 }

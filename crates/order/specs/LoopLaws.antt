@@ -24,12 +24,16 @@ use Rattle.owners.specs.GroupBytes.{membersAt, first-below, first-byte, first-w
 use Rattle.owners.specs.Owners.{ownerOf, keyOf, NeedsChained}
 use Rattle.owners.specs.OwnerLaws.{owner-first, among-kept}
 use Rattle.layout.specs.Needs.{OwnNeeds}
-use Rattle.group.specs.Sorts.{Sortable, Sorted, has-finished, was-spent, was-full}
-use Rattle.group.specs.declared.Ending.{Ending}
-use Rattle.group.specs.declared.Ending.the-variants.{Finished, Spent, Full}
+use Rattle.group.specs.Sorts.{Sortable, Sorted, has-finished, was-spent, was-full, was-crowded as sort-crowded}
+use Rattle.group.specs.declared.Ending.{Ending as SortEnding}
+use Rattle.group.specs.declared.Ending.the-variants.{Finished as SortFinished, Spent as SortSpent, Full as SortFull, Crowded as SortCrowded}
+use Rattle.order.specs.declared.Ending.{Ending}
+use Rattle.order.specs.declared.Ending.the-variants.{Finished, Spent, Full}
 use Rattle.order.specs.declared.Turn.{Turn}
+use Rattle.order.specs.declared.Turns.{Turns}
+use Rattle.order.specs.declared.Turns.the-variants.{Ended, Crowded}
 use Rattle.giving.specs.Giving.{Members, Stored}
-use Rattle.order.specs.Orders.{Ordered, has-finished as has-ordered, was-spent as order-spent, was-full as order-full, Ready, Taking, Advanced, Took, Gave, Turning}
+use Rattle.order.specs.Orders.{Ordered, has-finished as has-ordered, was-spent as order-spent, was-full as order-full, Ready, Taking, Advanced, Took, Gave, Turning, stoppedAs, Turned, has-ended, was-crowded}
 use Rattle.giving.specs.StoreLaws.{stored-behind}
 use Rattle.order.specs.TurnLaws.{gave-more, gave-room, sorted-most}
 
@@ -198,7 +202,7 @@ module _ {p : Project} {groups : List (List ℕ)} {items next heads bytes : List
     own-needs c most =
         record {
           own = keep (λ (n : Need). eqb (keyOf p groups n) (t .left)) (p .needs);
-          along = c .chains (t .left) most;
+          along = c .chains (t .left) (omega (arith, s .left-is ∙ ap length (first .2))) most;
           few = omega (arith, length-parts (λ (n : Need). eqb (keyOf p groups n) (t .left)) (p .needs));
           among = ap (map (numbered (numbering p modules))) (among-kept p groups (numbering p modules) (t .left) own-row (p .needs));
         }
@@ -231,14 +235,14 @@ module _ {p : Project} {groups : List (List ℕ)} {items next heads bytes : List
       unfolding sortGroup
       sorts = rw (k, sortGroup, f)
 
-      finished-of : {after : List ℕ} {kept made : ℕ} → Sorted sorted (t .kept) now after (Finished kept made)
+      finished-of : {entries : ℕ} {after : List ℕ} {kept made : ℕ} → Sorted entries sorted (t .kept) now after (SortFinished kept made)
           → (rows : List ℕ) × (sorted ≡ finished rows made) × Stored rows (t .kept) now after kept
       finished-of (has-finished rows e w) = (rows, e, record { whole = w; count = refl })
 
-      pub turn-sorted : {e : Ending} {after : List ℕ} {kept made : ℕ} {r : Turn} → e ≡ Finished kept made → Sorted sorted (t .kept) now after e
-          → Advanced members t kept made r → Turning p groups bytes allowance before after r
-      turn-sorted {after = after} q d a =
-          let g = finished-of (subst (Sorted sorted (t .kept) now after) q d) in
+      pub turn-sorted : {entries : ℕ} {e : SortEnding} {after : List ℕ} {kept made : ℕ} {r : Turn} → e ≡ SortFinished kept made
+          → Sorted entries sorted (t .kept) now after e → Advanced members t kept made r → Turning p groups bytes allowance before after r
+      turn-sorted {entries} {after = after} q d a =
+          let g = finished-of (subst (Sorted entries sorted (t .kept) now after) q d) in
           turn-next (sorts ∙ g .1) (omega (arith, sorted-most p found itemListLimit (allowance - t .made) (t .made) (g .1), s .made-most))
           (rw (a .kept-is) (g .2))
           (record { place-is = a .place-is; left-is = a .left-is; used-is = a .used-is; kept-is = refl; made-is = a .made-is })
@@ -253,18 +257,40 @@ module _ {p : Project} {groups : List (List ℕ)} {items next heads bytes : List
           ∙ ap (λ (l : List (List ℕ)). orderGroups p itemListLimit allowance (s .earlier) l (s .rows) (t .made)) (first .2 ∙ ap (λ (g : List ℕ). g ∷ first .1) (sym members-are))
           ∙ ap (λ (stop : Stop (List ℕ)). continueWith stop (λ got n. orderGroups p itemListLimit allowance (members ∷ s .earlier) (first .1) (s .rows ++ got) n)) (sorts ∙ e)
 
-      spent-of : {after : List ℕ} {made : ℕ} → Sorted sorted (t .kept) now after (Spent made)
+      spent-of : {entries : ℕ} {after : List ℕ} {made : ℕ} → Sorted entries sorted (t .kept) now after (SortSpent made)
           → Ordered (orderGroups p itemListLimit allowance [] groups [] 0) before after (Spent made)
       unfolding continueWith
       spent-of (was-spent e w) = order-spent (stops e)
 
-      full-of : {after : List ℕ} {made : ℕ} → Sorted sorted (t .kept) now after (Full made)
+      full-of : {entries : ℕ} {after : List ℕ} {made : ℕ} → Sorted entries sorted (t .kept) now after (SortFull made)
           → Ordered (orderGroups p itemListLimit allowance [] groups [] 0) before after (Full made)
       unfolding continueWith
       full-of (was-full e w) = order-full (stops e)
 
-      pub turn-stopped : (e : Ending) → ((kept made : ℕ) → e ≡ Finished kept made → ⊥) → {after : List ℕ} → Sorted sorted (t .kept) now after e
-          → Ordered (orderGroups p itemListLimit allowance [] groups [] 0) before after e
-      turn-stopped (Finished kept made) n d = absurd (n kept made refl)
-      turn-stopped (Spent made) n d = spent-of d
-      turn-stopped (Full made) n d = full-of d
+      -- Its list may not fit: the turns stop before it.
+      crowded-of : {entries : ℕ} {after : List ℕ} → Sorted entries sorted (t .kept) now after SortCrowded
+          → Turned entries p groups bytes allowance before after (Crowded t)
+      crowded-of (sort-crowded short w) = was-crowded {t = t} short (rw w s)
+
+      pub turn-stopped : {entries : ℕ} (e : SortEnding) → ((kept made : ℕ) → e ≡ SortFinished kept made → ⊥) → {after : List ℕ}
+          → Sorted entries sorted (t .kept) now after e → Turned entries p groups bytes allowance before after (stoppedAs t e)
+      unfolding stoppedAs
+      turn-stopped (SortFinished kept made) n d = absurd (n kept made refl)
+      turn-stopped (SortSpent made) n d = has-ended (spent-of d)
+      turn-stopped (SortFull made) n d = has-ended (full-of d)
+      turn-stopped SortCrowded n d = crowded-of d
+
+-- What the turns have come to.
+module _ {entries : ℕ} {p : Project} {groups : List (List ℕ)} {bytes : List ℕ} {allowance : ℕ} {before after : List ℕ} {r : Turns}
+    (d : Turned entries p groups bytes allowance before after r) where
+  pub turns-ended : {e : Ending} → r ≡ Ended e → Ordered (orderGroups p itemListLimit allowance [] groups [] 0) before after e
+  turns-ended {e} f = go (subst (Turned entries p groups bytes allowance before after) f d)
+    where
+      go : Turned entries p groups bytes allowance before after (Ended e) → Ordered (orderGroups p itemListLimit allowance [] groups [] 0) before after e
+      go (has-ended o) = o
+
+  pub turns-crowded : {t : Turn} → r ≡ Crowded t → (entries < itemListLimit) × Turning p groups bytes allowance before after t
+  turns-crowded {t} f = go (subst (Turned entries p groups bytes allowance before after) f d)
+    where
+      go : Turned entries p groups bytes allowance before after (Crowded t) → (entries < itemListLimit) × Turning p groups bytes allowance before after t
+      go (was-crowded short s) = (short, s)

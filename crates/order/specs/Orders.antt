@@ -20,11 +20,15 @@ use Rattle.laws.specs.OrderCalls.{EachOnce}
 use Rattle.lists.specs.Bits.{bit}
 use Rattle.split.specs.Splits.{RowsAlong, ModuleChains}
 use Rattle.owners.specs.Owners.{Owned, NeedsChained}
-use Rattle.group.specs.Walking.{Sized, FirstRoom}
-use Rattle.group.specs.declared.Ending.{Ending}
-use Rattle.group.specs.declared.Ending.the-variants.{Finished, Spent, Full}
+use Rattle.group.specs.Walking.{Sized}
+use Rattle.group.specs.declared.Ending.{Ending as SortEnding}
+use Rattle.group.specs.declared.Ending.the-variants.{Finished as SortFinished, Spent as SortSpent, Full as SortFull, Crowded as SortCrowded}
 use Rattle.giving.specs.Giving.{Members, ImportersShown, Stored}
+use Rattle.order.specs.declared.Ending.{Ending}
+use Rattle.order.specs.declared.Ending.the-variants.{Finished, Spent, Full}
 use Rattle.order.specs.declared.Turn.{Turn}
+use Rattle.order.specs.declared.Turns.{Turns}
+use Rattle.order.specs.declared.Turns.the-variants.{Ended, Crowded}
 
 -- The groups of a project, as the bytes of a groups call, and its sections; `out` has a place for each item row.
 pub record Orderable (p : Project) (groups : List (List ℕ)) (items imports needs bytes : List ℕ) (count : ℕ) (out : List ℕ) : Type 0 where
@@ -105,6 +109,21 @@ pub record Turning (p : Project) (groups : List (List ℕ)) (bytes : List ℕ) (
   pub made-most : t .made ≤ allowance
   pub same : orderGroups p itemListLimit allowance [] groups [] 0 ≡ orderGroups p itemListLimit allowance earlier rest rows (t .made)
 
+-- What the turns come to where the sort of a group stops them, in turn t.
+unfoldable pub stoppedAs : Turn → SortEnding → Turns
+stoppedAs t (SortFinished kept made) = Ended (Finished kept made)
+stoppedAs t (SortSpent made) = Ended (Spent made)
+stoppedAs t (SortFull made) = Ended (Full made)
+stoppedAs t SortCrowded = Crowded t
+
+-- What the turns come to with a list's array of so many entries: they stop as the definition does, or where the entries are fewer than the limit, between
+-- two turns.
+pub data Turned (entries : ℕ) (p : Project) (groups : List (List ℕ)) (bytes : List ℕ) (allowance : ℕ) (before after : List ℕ) : Turns → Type 0 where
+  has-ended : {e : Ending} → Ordered (orderGroups p itemListLimit allowance [] groups [] 0) before after e
+      → Turned entries p groups bytes allowance before after (Ended e)
+  was-crowded : {t : Turn} → entries < itemListLimit → Turning p groups bytes allowance before after t
+      → Turned entries p groups bytes allowance before after (Crowded t)
+
 -- What the turns from one on rely on: the sections of items and needs, and all that turns rely on.
 pub record Resuming (p : Project) (groups : List (List ℕ)) (items needs next heads bytes : List ℕ) (count importers givers allowance : ℕ)
     (before now : List ℕ) (t : Turn) : Type 0 where
@@ -129,8 +148,8 @@ pub record Sorting (p : Project) (groups : List (List ℕ)) (items needs next-ne
   pub ready : Ready p groups items next heads bytes (length groups) importers givers now
   pub turning : Turning p groups bytes allowance before now t
 
--- The sizes of the arrays that are lent to the turns, whatever stands there, for a project with this many items and needs.
-pub record Lent (items needs : ℕ) (seen weak reach paths moved from to next-out next-in list : List ℕ) : Type 0 where
+-- The sizes of the arrays that are lent to the turns, whatever stands there, for a project with this many items and needs. The list's has any size.
+pub record Lent (items needs : ℕ) (seen weak reach paths moved from to next-out next-in : List ℕ) : Type 0 where
   pub seen-size : Sized items seen
   pub seen-most : length seen ≤ 65536
   pub weak-size : Sized items weak
@@ -141,4 +160,3 @@ pub record Lent (items needs : ℕ) (seen weak reach paths moved from to next-ou
   pub to-size : needs ≤ length to
   pub next-out-size : needs ≤ length next-out
   pub next-in-size : needs ≤ length next-in
-  pub list-size : FirstRoom items list

@@ -65,6 +65,24 @@ gives-shown p m =
     ∙ any-positions (λ (i : Item). isKept (i .kind) && eqb (i .inModule) m) 0 (p .items)
     ∙ sym (ap (λ (l : List ℕ). not (isEmpty l)) (keptRowsOf-positions p m))
 
+-- Turns that are ready are so on another array of the same size.
+ready-on : {p : Project} {groups : List (List ℕ)} {items next heads bytes : List ℕ} {count importers givers : ℕ} {out now : List ℕ}
+    → Ready p groups items next heads bytes count importers givers out → length now ≡ length out
+    → Ready p groups items next heads bytes count importers givers now
+ready-on r size =
+    record {
+      accepted = r .accepted;
+      chains = r .chains;
+      bytes-are = r .bytes-are;
+      bytes-most = r .bytes-most;
+      count-is = r .count-is;
+      each-once = r .each-once;
+      members-below = r .members-below;
+      imports-shown = r .imports-shown;
+      gives-shown = r .gives-shown;
+      out-size = size ∙ r .out-size;
+    }
+
 -- All is ready where the sets are those of the sections.
 module _ {p : Project} {groups : List (List ℕ)} {items imports needs bytes : List ℕ} {count : ℕ} {out : List ℕ}
     (o : Orderable p groups items imports needs bytes count out) where
@@ -104,18 +122,7 @@ module _ {p : Project} {groups : List (List ℕ)} {items imports needs bytes : L
         items-are = o .items-are;
         needs-are = o .needs-are;
         count-most = o .count-most;
-        ready = record {
-          accepted = r .accepted;
-          chains = r .chains;
-          bytes-are = r .bytes-are;
-          bytes-most = r .bytes-most;
-          count-is = r .count-is;
-          each-once = r .each-once;
-          members-below = r .members-below;
-          imports-shown = r .imports-shown;
-          gives-shown = r .gives-shown;
-          out-size = size ∙ r .out-size;
-        };
+        ready = ready-on r size;
         turning = t;
       }
 
@@ -173,3 +180,8 @@ module _ {p : Project} {groups : List (List ℕ)} {items needs owners next heads
   pub sorting : {next-need need-heads : List ℕ} → NeedsChained p groups needs next-need need-heads
       → Sorting p groups items needs next-need need-heads next heads bytes importers givers allowance before now t
   sorting c = record { groups-most = o .owned .groups-most; chained = c; ready = o .ready; turning = o .turning }
+
+  -- going on from another turn
+  pub owning-on : {now′ : List ℕ} {t′ : Turn} → length now′ ≡ length now → Turning p groups bytes allowance before now′ t′
+      → Owning p groups items needs owners next heads bytes importers givers allowance before now′ t′
+  owning-on size s = record { owned = o .owned; ready = ready-on (o .ready) size; turning = s }

@@ -1,5 +1,5 @@
 -- The sizes of the arrays that the turns work on. Assumes nothing.
-use Prim.Native.Nat.{ℕ, _+_, _*_, _≤_}
+use Prim.Native.Nat.{ℕ, _*_, _≤_}
 use native.Mathlib.Omega.{arith}
 use native.Mathlib.Nat.{mul-le-mul}
 use mathlib.Core.Path.{_≡_}
@@ -43,8 +43,8 @@ pub scratch : {items needs : ℕ} {seen₀ weak₀ reach₀ paths₀ moved₀ fr
     {rows kinds low high starts numbers seen weak reach paths moved placed from to next-out next-in heads-out heads-in «open» order list : List ℕ}
     → Own rows kinds low high starts numbers placed heads-out heads-in «open» order
     → AsLong seen₀ weak₀ reach₀ paths₀ moved₀ from₀ to₀ next-out₀ next-in₀ list₀ seen weak reach paths moved from to next-out next-in list
-    → Lent items needs seen₀ weak₀ reach₀ paths₀ moved₀ from₀ to₀ next-out₀ next-in₀ list₀
-    → Scratch items needs rows kinds low high starts numbers seen weak reach paths moved placed from to next-out next-in heads-out heads-in «open» order list
+    → Lent items needs seen₀ weak₀ reach₀ paths₀ moved₀ from₀ to₀ next-out₀ next-in₀
+    → Scratch items needs rows kinds low high starts numbers seen weak reach paths moved placed from to next-out next-in heads-out heads-in «open» order
 scratch own same l =
     record {
       rows-size = own .rows-size;
@@ -70,13 +70,6 @@ scratch own same l =
             heads-in-size = own .heads-in-size;
             open-size = own .open-size;
             order-size = own .order-size;
-            list-size =
-                record {
-                  more = l .list-size .more;
-                  enough = l .list-size .enough;
-                  items-most = l .list-size .items-most;
-                  size = rw (same .of-list) (l .list-size .size);
-                };
           };
     }
 
@@ -86,11 +79,10 @@ sized {n} {most} words h room =
     let fewer : wordsFor n ≤ wordsFor most = omega arith in
     omega (arith, mul-le-mul h fewer, length-replicate {A = ℕ} words 0)
 
-pub lent : {items needs : ℕ} (most many words entries more : ℕ) → items ≤ most → needs ≤ many → most * wordsFor most ≤ words → words ≤ 65536
-    → 63 ≤ more → most ≤ 63 + more → 64 + (63 + more) + 63 * more ≤ entries
+pub lent : {items needs : ℕ} (most many words : ℕ) → items ≤ most → needs ≤ many → most * wordsFor most ≤ words → words ≤ 65536
     → Lent items needs (replicate words 0) (replicate words 0) (replicate words 0) (replicate words 0) (replicate words 0) (replicate many 0)
-    (replicate many 0) (replicate many 0) (replicate many 0) (replicate entries 0)
-lent most many words entries more few less room fits enough below long =
+    (replicate many 0) (replicate many 0) (replicate many 0)
+lent most many words few less room fits =
     record {
       seen-size = sized words few room;
       seen-most = omega (arith, length-replicate {A = ℕ} words 0);
@@ -102,5 +94,4 @@ lent most many words entries more few less room fits enough below long =
       to-size = omega (arith, length-replicate {A = ℕ} many 0);
       next-out-size = omega (arith, length-replicate {A = ℕ} many 0);
       next-in-size = omega (arith, length-replicate {A = ℕ} many 0);
-      list-size = record { more = more; enough = enough; items-most = omega arith; size = omega (arith, length-replicate {A = ℕ} entries 0) };
     }

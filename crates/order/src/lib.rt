@@ -1,6 +1,5 @@
 // The groups of an order call, sorted in turn (toposort_real_modules).
 use giving::kept;
-use group::Ending;
 use group::sort_stmts;
 use owners::chain_needs;
 use owners::note_owners;
@@ -12,7 +11,7 @@ ghost use Rattle.rules.specs.Project.{Project, moduleLimit, itemLimit, needLimi
 ghost use Rattle.rules.specs.Calls.{itemListLimit, orderGroups};
 ghost use mathlib.Core.Path.{_≡_};
 ghost use Rattle.giving.specs.Giving.{Members};
-ghost use Rattle.order.specs.Orders.{Orderable, Ordered, Ready, Taking, Advanced, Took, Turning, Resuming, Owning, Sorting, Lent};
+ghost use Rattle.order.specs.Orders.{Orderable, Ordered, Ready, Taking, Advanced, Took, Turning, stoppedAs, Turned, Resuming, Owning, Sorting, Lent};
 
 // How far the turns have come: where the next group's bytes begin, how many groups are left, the modules that earlier groups list, the rows written
 // and the visits made.
@@ -22,6 +21,19 @@ pub struct Turn {
     pub used: u64,
     pub kept: usize,
     pub made: u32,
+}
+
+// How the sort of all groups stopped, with the end of the rows written and the visits made.
+pub enum Ending {
+    Finished(usize, u32),
+    Spent(u32),
+    Full(u32),
+}
+
+// What the turns come to: an ending, or the turn of a group whose list may not fit its array.
+pub enum Turns {
+    Ended(Ending),
+    Crowded(Turn),
 }
 
 // The turn after a group's, which has left `kept` rows and `made` visits.
@@ -98,6 +110,18 @@ fn keep_groups(
     t
 }
 
+// What the turns come to where the sort of a group stops them, in turn t.
+fn stopped(e: group::Ending, t: Turn) -> Turns
+    ensures { λ r. ⌜ r ≡ stoppedAs t e ⌝ }
+{
+    match e {
+        group::Ending::Finished(kept, made) => Turns::Ended(Ending::Finished(kept, made)),
+        group::Ending::Spent(made) => Turns::Ended(Ending::Spent(made)),
+        group::Ending::Full(made) => Turns::Ended(Ending::Full(made)),
+        group::Ending::Crowded => Turns::Crowded(t),
+    }
+}
+
 // The turns of the groups from `first` on, some of them sorted. `need_heads` begins the chains of needs, by how many groups are left. The
 // slices behind `first` but `out` are working space, whose contents at the end are left free.
 fn sort_turns(
@@ -123,18 +147,18 @@ fn sort_turns(
     list: &mut [u16],
     out: &mut [u8],
     allowance: u32,
-) -> Ending
+) -> Turns
     requires { ⌜ ((p : Project) × (groups : List (List ℕ)) × (before : List ℕ)
         × Sorting p groups (now items) (now needs) (now «next_need») (now «need_heads») (now next) (now heads)
         (now bytes) importers givers allowance before (now out) first
         × Lent (length (p .items)) (length (p .needs)) (now seen) (now weak) (now reach) (now paths) (now moved) (now from) (now to)
-        (now «next_out») (now «next_in») (now list)) ⌝ }
+        (now «next_out») (now «next_in»)) ⌝ }
     ensures { λ r. ⌜ ((p : Project) (groups : List (List ℕ)) (before : List ℕ)
         → Sorting p groups (now (items .entry)) (now (needs .entry)) (now («next_need» .entry)) (now («need_heads» .entry)) (now (next .entry))
         (now (heads .entry)) (now (bytes .entry)) importers givers allowance before (now (out .entry)) first
         → Lent (length (p .items)) (length (p .needs)) (now (seen .entry)) (now (weak .entry)) (now (reach .entry)) (now (paths .entry))
-        (now (moved .entry)) (now (from .entry)) (now (to .entry)) (now («next_out» .entry)) (now («next_in» .entry)) (now (list .entry))
-        → Ordered (orderGroups p itemListLimit allowance [] groups [] 0) before (now (out .exit)) r) ⌝ }
+        (now (moved .entry)) (now (from .entry)) (now (to .entry)) (now («next_out» .entry)) (now («next_in» .entry))
+        → Turned (length (now (list .entry))) p groups (now (bytes .entry)) allowance before (now (out .exit)) r) ⌝ }
 {
     let mut rows = [0u16; 256];
     let mut kinds = [0u8; 256];
@@ -194,15 +218,15 @@ fn sort_turns(
             allowance,
             t.made,
         );
-        let Ending::Finished(kept, made) = e else {
-            return e;
+        let group::Ending::Finished(kept, made) = e else {
+            return stopped(e, t);
         };
         t = after(t, members, kept, made);
     }
-    Ending::Finished(t.kept, t.made)
+    Turns::Ended(Ending::Finished(t.kept, t.made))
 }
 
-// Chains the needs and takes the turns, with arrays for 128 items and 512 needs.
+// Chains the needs and takes the turns, with arrays for 128 items and 512 needs, and for lists of 1,024 entries.
 fn sort_small(
     items: &[u8],
     needs: &[u8],
@@ -215,14 +239,14 @@ fn sort_small(
     first: Turn,
     out: &mut [u8],
     allowance: u32,
-) -> Ending
+) -> Turns
     requires { ⌜ ((p : Project) × (groups : List (List ℕ)) × (before : List ℕ)
         × Owning p groups (now items) (now needs) (now owners) (now next) (now heads) (now bytes) importers givers allowance before (now out) first
         × (length (p .items) ≤ 128) × (length (p .needs) ≤ 512)) ⌝ }
     ensures { λ r. ⌜ ((p : Project) (groups : List (List ℕ)) (before : List ℕ)
         → Owning p groups (now (items .entry)) (now (needs .entry)) (now (owners .entry)) (now (next .entry)) (now (heads .entry)) (now (bytes .entry))
         importers givers allowance before (now (out .entry)) first → length (p .items) ≤ 128 → length (p .needs) ≤ 512
-        → Ordered (orderGroups p itemListLimit allowance [] groups [] 0) before (now (out .exit)) r) ⌝ }
+        → Turned 1024 p groups (now (bytes .entry)) allowance before (now (out .exit)) r) ⌝ }
 {
     let mut next_need = [0u16; 512];
     let mut need_heads = [0u16; 65];
@@ -236,7 +260,7 @@ fn sort_small(
     let mut to = [0u16; 512];
     let mut next_out = [0u16; 512];
     let mut next_in = [0u16; 512];
-    let mut list = [0u16; 4352];
+    let mut list = [0u16; 1024];
     sort_turns(
         items,
         needs,
@@ -263,7 +287,7 @@ fn sort_small(
     )
 }
 
-// The same with arrays for all items and needs that there can be.
+// The same with arrays for all items and needs that there can be, and for the longest list.
 fn sort_large(
     items: &[u8],
     needs: &[u8],
@@ -298,7 +322,7 @@ fn sort_large(
     let mut next_out = [0u16; 2048];
     let mut next_in = [0u16; 2048];
     let mut list = [0u16; 16384];
-    sort_turns(
+    let turns = sort_turns(
         items,
         needs,
         &next_need,
@@ -321,10 +345,16 @@ fn sort_large(
         &mut list,
         out,
         allowance,
-    )
+    );
+    match turns {
+        Turns::Ended(e) => e,
+        // No list is longer than this array.
+        Turns::Crowded(t) => Ending::Spent(t.made),
+    }
 }
 
-// The turns of the groups from `first` on, some of them sorted. A project of usual size gets by with small arrays, which are quicker to make.
+// The turns of the groups from `first` on, some of them sorted. A project of usual size gets by with small arrays, which are
+// quicker to make; where a list may not fit its small array, the turns go on with large ones.
 fn sort_rest(
     items: &[u8],
     needs: &[u8],
@@ -348,7 +378,7 @@ fn sort_rest(
 {
     let mut owners = [0u8; 64];
     note_owners(bytes, count, &mut owners);
-    // `sort_large` is called at two places, so that it is not merged into this function: the large arrays stay off the stack frame of small projects.
+    // `sort_large` is called at several places, so that it is not merged into this function: the large arrays stay off the stack frame of small projects.
     if 256 < items.len() {
         return sort_large(
             items,
@@ -379,7 +409,7 @@ fn sort_rest(
             allowance,
         );
     }
-    sort_small(
+    let turns = sort_small(
         items,
         needs,
         &owners,
@@ -391,7 +421,23 @@ fn sort_rest(
         first,
         out,
         allowance,
-    )
+    );
+    match turns {
+        Turns::Ended(e) => e,
+        Turns::Crowded(reached) => sort_large(
+            items,
+            needs,
+            &owners,
+            next,
+            heads,
+            bytes,
+            importers,
+            givers,
+            reached,
+            out,
+            allowance,
+        ),
+    }
 }
 
 // Sorts the groups in turn and writes the rows of their kept items to `out`. Where it stops, what `out` holds is left free.

@@ -26,8 +26,8 @@ use Rattle.project.specs.Sections.{Accepts, part}
 use Rattle.project.specs.declared.Layout.{Layout}
 use Rattle.chunk.specs.declared.walk.ModuleWalk.{ModuleWalk}
 use Rattle.chunk.specs.declared.walk.Ending.the-variants.{Finished as Walk-finished, Spent as Walk-spent, Full as Walk-full}
-use Rattle.group.specs.declared.Ending.{Ending as GroupEnding}
-use Rattle.group.specs.declared.Ending.the-variants.{Finished, Spent, Full}
+use Rattle.order.specs.declared.Ending.{Ending as OrderEnding}
+use Rattle.order.specs.declared.Ending.the-variants.{Finished, Spent, Full}
 use Rattle.order.specs.Orders.{Orderable, Ordered, has-finished, was-spent, was-full}
 use Rattle.sort.specs.declared.Numbers.{Numbers}
 use Rattle.sort.specs.Answers.{numbersOf, Answered}
@@ -173,7 +173,7 @@ module _ {bytes : List ℕ} {l : Layout} {groups reply : List ℕ} {count visits
         keptCount = refl;
       })
 
-  pub givable : {before rows : List ℕ} {ending : GroupEnding} → length before ≡ itemLimit
+  pub givable : {before rows : List ℕ} {ending : OrderEnding} → length before ≡ itemLimit
       → Ordered (orderGroups p itemListLimit (allowance - visits) [] (groupsInOrder s) [] 0) before rows ending
       → Givable p (orderGroups p itemListLimit (allowance - visits) [] (groupsInOrder s) [] 0) rows count reply ending
   unfolding orderBytes

@@ -13,7 +13,7 @@ use Rattle.project.specs.declared.Layout.{Layout}
 use Rattle.chunk.specs.Walks.{Ended, Holds}
 use Rattle.chunk.specs.declared.walk.Ending.{Ending}
 use Rattle.order.specs.Orders.{Ordered}
-use Rattle.group.specs.declared.Ending.{Ending as GroupEnding}
+use Rattle.order.specs.declared.Ending.{Ending as OrderEnding}
 
 -- An accepted project and a reply that is long enough, with an allowance that is not 0.
 pub record Ready (bytes : List ℕ) (l : Layout) (reply : List ℕ) (allowance : ℕ) : Type 0 where
@@ -35,7 +35,7 @@ pub record Found (bytes : List ℕ) (l : Layout) (groups : List ℕ) (count visi
   pub count-is : count ≡ length (groupsOf s)
 
 -- A sort of all groups that can be answered: where it has finished, it has placed all kept rows, and they fit the reply.
-pub record Givable (p : Project) (stop : Stop (List ℕ)) (rows : List ℕ) (count : ℕ) (reply : List ℕ) (ending : GroupEnding) : Type 0 where
+pub record Givable (p : Project) (stop : Stop (List ℕ)) (rows : List ℕ) (count : ℕ) (reply : List ℕ) (ending : OrderEnding) : Type 0 where
   pub before : List ℕ
   pub size : length before ≡ itemLimit
   pub sorted : Ordered stop before rows ending

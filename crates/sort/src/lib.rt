@@ -232,7 +232,7 @@ fn sort_items(
 
 // The answer to a sort of all groups: where it has finished, its rows are copied to the reply.
 fn give_order(
-    ending: group::Ending,
+    ending: order::Ending,
     rows: &[u8],
     groups: usize,
     module_visits: u32,
@@ -243,7 +243,7 @@ fn give_order(
         → Answered (orderAnswer p groups «module_visits» stop) (now (reply .entry)) (now (reply .exit)) r) ⌝ }
 {
     match ending {
-        group::Ending::Finished(end, made) => {
+        order::Ending::Finished(end, made) => {
             copy_front(&rows[..end], reply);
             Numbers {
                 answer: 0,
@@ -253,7 +253,7 @@ fn give_order(
                 item_visits: made,
             }
         }
-        group::Ending::Spent(made) => refusal(11, module_visits, made),
-        group::Ending::Full(made) => refusal(12, module_visits, made),
+        order::Ending::Spent(made) => refusal(11, module_visits, made),
+        order::Ending::Full(made) => refusal(12, module_visits, made),
     }
 }

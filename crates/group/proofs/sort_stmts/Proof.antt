@@ -42,6 +42,7 @@ end-sort-requires c κs =
     let able = start .pre .1 .1 in
     let numbered = split .number-items .ensures p (numberable able (start .pre .1 .2)) in (
       _,
+      _,
       endable able numbered (start .args .allowance - start .args .already) (start .args .already)
           (walked .walk-group .ensures p (group-walkable able numbered) (start .pre .1 .2 .walk)) (split .number-items .kept .1 .1 .1 .1 .0 ∙ start .pre .1 .2 .rows-size)
           (walked .walk-group .kept .1 .1 .1 .1 .1 .1 .1 .1 .1 .1 .1 .1 .1 .1 .1 .1 .1 .1 .1 .1 .1 .1 .1 .1 .0 ∙ start .pre .1 .2 .walk .order-size),

@@ -1,10 +1,12 @@
 -- `order::sort_large` meets its contract: its parts in turn. Assumes nothing.
-use Prim.Native.Nat.{_+_}
+use Prim.Native.Nat.{ℕ, _+_}
 use borrow.Author.Needs.{needs}
 use native.Mathlib.Omega.{arith}
+use lib.ListN.{length-replicate}
 use Rattle.rules.specs.Project.{moduleLimit, itemLimit, needLimit}
 use Rattle.lists.specs.ArrayLaws.{zeros-replicate}
 use Rattle.order.specs.Sizes.{lent}
+use Rattle.order.specs.LoopLaws.{turns-ended, turns-crowded}
 use Rattle.order.specs.ReadyLaws.{needs-chainable, sorting}
 use Rattle.order.proofs.sort_large.Statement.{statement}
 use Rattle.order.proofs.sort_large.Tie as tie
@@ -68,17 +70,36 @@ sort-turns-requires c κs =
       groups,
       start .pre .2,
       sorting o (c .before .before .before .before .before .before .before .before .before .before .before .before .before .before .before .chain-needs .ensures p groups chainable),
-      lent itemLimit needLimit 1024 16384 193 (start .pre .4) (start .pre .5) (omega arith) (omega arith) (omega arith) (omega arith) (omega arith),
+      lent itemLimit needLimit 1024 (start .pre .4) (start .pre .5) (omega arith) (omega arith),
     )
+
+enum-known-turns : tie.Need-enum-known-turns
+enum-known-turns c = search needs
+
+enum-known-turns-2 : tie.Need-enum-known-turns-2
+enum-known-turns-2 c = search needs
 
 same-length : tie.Need-same-length
 same-length c = search needs
 
 returns : tie.Need-returns
 returns c = λ p groups before o few many.
-    let chainable = needs-chainable o many (zeros-replicate (moduleLimit + 1)) in
-    c .before .before .before .before .before .before .before .before .before .before .before .before .sort-turns .ensures p groups before (sorting o (c .before .before .before .before .before .before .before .before .before .before .before .before .before .before .before .before .before .before .before .before .before .before .before .before .before .before .before .before .chain-needs .ensures p groups chainable))
-    (lent itemLimit needLimit 1024 16384 193 few many (omega arith) (omega arith) (omega arith) (omega arith) (omega arith))
+    turns-ended
+    (c .before .before .before .before .before .before .before .before .before .before .before .before .before .before .before .sort-turns .ensures p groups before (sorting o (c .before .before .before .before .before .before .before .before .before .before .before .before .before .before .before .before .before .before .before .before .before .before .before .before .before .before .before .before .before .before .before .chain-needs .ensures p groups (needs-chainable o many (zeros-replicate (moduleLimit + 1)))))
+    (lent itemLimit needLimit 1024 few many (omega arith) (omega arith)))
+    (c .before .turns .given .1)
+
+same-length-2 : tie.Need-same-length-2
+same-length-2 c = search needs
+
+returns-2 : tie.Need-returns-2
+returns-2 c = λ p groups before o few many.
+    let crowded =
+    turns-crowded
+    (c .before .before .before .before .before .before .before .before .before .before .before .before .before .before .before .sort-turns .ensures p groups before (sorting o (c .before .before .before .before .before .before .before .before .before .before .before .before .before .before .before .before .before .before .before .before .before .before .before .before .before .before .before .before .before .before .before .chain-needs .ensures p groups (needs-chainable o many (zeros-replicate (moduleLimit + 1)))))
+    (lent itemLimit needLimit 1024 few many (omega arith) (omega arith)))
+    (c .before .turns2 .given .1) in
+    absurd (omega (arith, crowded .0, length-replicate {A = ℕ} 16384 0))
 
 pub sort-large-spec : {M : Type 1} → statement M
 sort-large-spec =
@@ -100,5 +121,9 @@ sort-large-spec =
     slice-aggregate-sort-turns-11
     slice-aggregate-sort-turns-12
     sort-turns-requires
+    enum-known-turns
+    enum-known-turns-2
     same-length
-    returns)
+    returns
+    same-length-2
+    returns-2)

@@ -68,7 +68,7 @@ sort-turns-requires c κs =
       groups,
       start .pre .2,
       sorting o (c .before .before .before .before .before .before .before .before .before .before .before .before .before .before .before .chain-needs .ensures p groups chainable),
-      lent 128 512 256 4352 65 (start .pre .4) (start .pre .5) (omega arith) (omega arith) (omega arith) (omega arith) (omega arith),
+      lent 128 512 256 (start .pre .4) (start .pre .5) (omega arith) (omega arith),
     )
 
 same-length : tie.Need-same-length
@@ -78,7 +78,7 @@ returns : tie.Need-returns
 returns c = λ p groups before o few many.
     let chainable = needs-chainable o many (zeros-replicate (moduleLimit + 1)) in
     c .before .before .before .before .before .before .before .before .before .before .before .before .sort-turns .ensures p groups before (sorting o (c .before .before .before .before .before .before .before .before .before .before .before .before .before .before .before .before .before .before .before .before .before .before .before .before .before .before .before .before .chain-needs .ensures p groups chainable))
-    (lent 128 512 256 4352 65 few many (omega arith) (omega arith) (omega arith) (omega arith) (omega arith))
+    (lent 128 512 256 few many (omega arith) (omega arith))
 
 pub sort-small-spec : {M : Type 1} → statement M
 sort-small-spec =
