@@ -1,22 +1,26 @@
 -- Laws of a group's needs laid out for its walk. Assumes nothing.
 use Prim.Native.Nat.{ℕ, _*_, _≤_, _<_}
 use native.Mathlib.Omega.{arith}
-use mathlib.Core.Path.{_≡_, sym, ap, _∙_}
+use mathlib.Core.Path.{_≡_, refl, sym, ap, _∙_}
 use mathlib.Core.Bool.{Bool}
-use mathlib.Core.List.{List, _++_, map, reverse, reverse-reverse}
+use mathlib.Core.List.{List, [], _++_, map, zipWith, reverse, reverse-reverse}
 use lib.ListN.{length, take, drop, length-append, length-map, length-reverse, List·getD-append}
 use lib.Seq.{length-take-le}
 use Rattle.rules.specs.Lists.{keep}
 use Rattle.rules.specs.Project.{Need, needLimit}
 use Rattle.rules.specs.Items.{isAmong, numbered}
 use Rattle.laws.specs.Lists.{length-parts}
-use Rattle.lists.specs.Pairs.{differentPairs}
-use Rattle.graph.specs.Rows.{Rows, Holds}
-use Rattle.graph.specs.Graph.{Matrices, ends, Shows, Cleared, Chains, LinkRoom, LinksMade}
+use Rattle.rules.specs.Paths.{weightIn, inPaths}
+use Rattle.lists.specs.Pairs.{differentPairs, addPairs, pairsOf, chain}
+use Rattle.lists.specs.ChainLaws.{chain-end}
+use Rattle.owners.specs.Owners.{needAt, NeedsAlong}
+use Rattle.graph.specs.Rows.{Rows, cleared, Holds}
+use Rattle.graph.specs.RowLaws.{rows-sized, rows-cleared}
+use Rattle.graph.specs.Graph.{Matrices, ends, isMaybe, Shows, Cleared, Chains, LinkRoom, LinksMade}
 use Rattle.graph.specs.GraphLaws.{shows-count}
 use Rattle.stmt.specs.Walks.{Table, Chained}
 use Rattle.layout.specs.Needs.{needsAmong, NeedsRoom}
-use Rattle.layout.specs.Layout.{LayRoom, NeedsLaid}
+use Rattle.layout.specs.Layout.{LayRoom, NoneRoom, NeedsLaid}
 
 -- Of needs no more are among some rows than there are.
 among-most : (rows : List ℕ) (needs : List Need) → length (reverse (needsAmong rows needs)) ≤ length needs
@@ -49,14 +53,64 @@ chained {heads = heads} {count = count} rest heads-size most c =
       along = λ x g. rw (List·getD-append heads rest 0 x (omega arith)) (c .lists x g);
     }
 
+-- No needs.
+pub none-along : {section next : List ℕ} {head : ℕ} {own : List Need} → NeedsAlong section next head own → head ≡ 0 → own ≡ []
+none-along {section} {next} a e = sym (a .along) ∙ ap (map (needAt section)) (ap (chain next (a .count)) e ∙ chain-end next (a .count))
+
+module _ {words n : ℕ} {weak paths heads-out heads-in : List ℕ} (room : NoneRoom words n weak paths heads-out heads-in) where
+  pub out-none : length (take n heads-out) ≡ n
+  out-none = length-take-le n heads-out (omega (arith, room .most, room .heads-out-size))
+
+  pub in-none : length (take n heads-in) ≡ n
+  in-none = length-take-le n heads-in (omega (arith, room .most, room .heads-in-size))
+
+  pub linkable-none : {from to next-out next-in : List ℕ} → LinkRoom from to 0 (take n heads-out) next-out (take n heads-in) next-in
+  linkable-none =
+      record {
+        most = omega arith;
+        from-size = omega arith;
+        to-size = omega arith;
+        next-out-size = omega arith;
+        next-in-size = omega arith;
+        heads-size = in-none ∙ sym out-none;
+        from-below = λ i h. absurd (omega arith);
+        to-below = λ i h. absurd (omega arith);
+      }
+
+  pub laid-none : {weak′ paths′ from to next-out next-in part-out next-out′ part-in next-in′ : List ℕ} → weak′ ≡ cleared (n * words) weak
+      → length weak′ ≡ length weak → paths′ ≡ cleared (n * words) paths → length paths′ ≡ length paths → length part-out ≡ length (take n heads-out)
+      → length part-in ≡ length (take n heads-in)
+      → LinksMade (length (take n heads-out)) from to 0 next-out next-in part-out next-out′ part-in next-in′
+      → NeedsLaid n [] to (part-out ++ drop n heads-out) next-out′ from (part-in ++ drop n heads-in) next-in′ paths′ weak′ (64 * words)
+  unfolding pairsOf zipWith differentPairs addPairs inPaths isMaybe weightIn
+  laid-none {weak′} {paths′} e weak-same f paths-same a b l =
+      let k = rw out-none at (l .neighbours [] refl) in
+      record {
+        dependencies = chained (drop n heads-out) (a ∙ out-none) (omega arith) (k .dependencies);
+        dependants = chained (drop n heads-in) (b ∙ in-none) (omega arith) (k .dependants);
+        paths-shown = table (rows-sized paths paths′ (room .paths-rows) paths-same) (rw f (rows-cleared words n paths));
+        weak-shown = table (rows-sized weak weak′ (room .weak-rows) weak-same) (rw e (rows-cleared words n weak));
+      }
+
 module _ {words n : ℕ} {needs : List Need} {m : Matrices} {from to heads-out next-out heads-in next-in : List ℕ}
     (room : LayRoom words n needs m from to heads-out next-out heads-in next-in) where
+  -- without needs
+  pub none-room : NoneRoom words n (m .weak) (m .paths) heads-out heads-in
+  none-room =
+      record {
+        weak-rows = room .space .weak-rows;
+        paths-rows = room .space .paths-rows;
+        most = room .most;
+        heads-out-size = room .heads-out-size;
+        heads-in-size = room .heads-in-size;
+      }
+
   -- there is a head for each item
   pub out-heads : length (take n heads-out) ≡ n
-  out-heads = length-take-le n heads-out (omega (arith, room .most, room .heads-out-size))
+  out-heads = out-none none-room
 
   pub in-heads : length (take n heads-in) ≡ n
-  in-heads = length-take-le n heads-in (omega (arith, room .most, room .heads-in-size))
+  in-heads = in-none none-room
 
   -- after clearing
   pub needs-room : {m′ : Matrices} → Cleared words n m m′ → NeedsRoom words n needs m′ from to

@@ -23,9 +23,8 @@ use Rattle.lists.specs.StackLaws.{stack-length}
 use Rattle.stmt.specs.declared.walk.ItemWalk.{ItemWalk}
 use Rattle.stmt.specs.declared.walk.Outcome.{Outcome}
 use Rattle.stmt.specs.declared.walk.Outcome.the-variants.{WentOn, Placed}
-use Rattle.stmt.specs.declared.walk.Ending.{Ending}
 use Rattle.stmt.specs.declared.walk.Ending.the-variants.{Finished, Spent, Full}
-use Rattle.stmt.specs.Walks.{Room, Shows, Walking, Came, went-on, placed-one, Running, Ended, has-finished, was-spent, list-was-full, Ran, has-ended, was-crowded}
+use Rattle.stmt.specs.Walks.{Room, Shows, Walking, Came, went-on, placed-one, Running, Ended, has-finished, was-spent, list-was-full}
 
 -- The walk has ended where as many items are placed as there are: none is placed twice.
 module _ {g : Group} {s : ItemState} (i : Walked g s) where
@@ -179,36 +178,3 @@ roomy {room} end n list e t k h g = go (tested (ltb room itemListLimit))
 
 pub crowds : (room end n : ℕ) → (ltb room itemListLimit && ltb room (end + n + 1)) ≡ true → room < itemListLimit
 crowds room end n t = ltb-true room itemListLimit (both {a = ltb room itemListLimit} t .0)
-
--- A run on an array of the limit's size comes to its ending.
-module _ {g : Group} {to heads-out next-out from heads-in next-in paths weak kinds low high : List ℕ} {width n allowance already : ℕ}
-    {first : ItemState} {placed moved «open» order list : List ℕ} where
-  pub never-crowded : {e : Ending} → length list ≡ itemListLimit
-      → Ran g to heads-out next-out from heads-in next-in paths weak kinds low high width n allowance already first placed moved «open» order list e
-      → Ended (run (itemWalk g) itemListLimit (allowance - already) already first) n order e
-  never-crowded h (has-ended d) = d
-  never-crowded h (was-crowded f most r) = absurd (omega arith)
-
--- A run that stopped before a visit goes on from there with another array that holds the same list.
-module _ {g : Group} {to heads-out next-out from heads-in next-in paths weak kinds low high : List ℕ} {width : ℕ}
-    {placed moved «open» order list : List ℕ} {w : ItemWalk} where
-  pub walking-moved : {s : ItemState} {list′ : List ℕ} → w .end ≤ length list′ → stack list′ (w .end) ≡ stack list (w .end)
-      → Walking g to heads-out next-out from heads-in next-in paths weak kinds low high width placed moved «open» order list w s
-      → Walking g to heads-out next-out from heads-in next-in paths weak kinds low high width placed moved «open» order list′ w s
-  walking-moved k e h =
-      record {
-        laid = h .laid;
-        room = h .room;
-        shows = record {
-          entries = record { shown = e ∙ h .shows .entries .shown; within = h .shows .entries .within; held = k };
-          items = h .shows .items;
-          pairs = h .shows .pairs;
-        };
-        walked = h .walked;
-      }
-
-  pub ends-resumed : {allowance already made n : ℕ} {first : ItemState} {order′ : List ℕ} {e : Ending}
-      (r : Running g to heads-out next-out from heads-in next-in paths weak kinds low high width allowance already first placed moved «open» order list w made)
-      → Ended (run (itemWalk g) itemListLimit (allowance - made) made (r .state)) n order′ e
-      → Ended (run (itemWalk g) itemListLimit (allowance - already) already first) n order′ e
-  ends-resumed {n = n} {order′ = order′} {e = e} r d = subst (λ (stop : Stop ItemState). Ended stop n order′ e) (sym (r .same)) d

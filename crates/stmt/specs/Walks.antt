@@ -122,8 +122,7 @@ pub record Running (g : Group) (to heads-out next-out from heads-in next-in path
   pub walking : Walking g to heads-out next-out from heads-in next-in paths weak kinds low high width placed moved «open» order list w state
   pub same : run (itemWalk g) itemListLimit (allowance - already) already first ≡ run (itemWalk g) itemListLimit (allowance - made) made state
 
--- What a run comes to: its ending, or where the array is shorter than the limit, the state before a visit for which it may be too short. From there the
--- run goes on with a longer array.
+-- What a run comes to: its ending, or where the array is shorter than the limit, the state before a visit for which it may be too short.
 pub data Ran (g : Group) (to heads-out next-out from heads-in next-in paths weak kinds low high : List ℕ) (width n allowance already : ℕ)
     (first : ItemState) (placed moved «open» order list : List ℕ) : Ending → Type 0 where
   has-ended : {e : Ending} → Ended (run (itemWalk g) itemListLimit (allowance - already) already first) n order e
