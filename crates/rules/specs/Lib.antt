@@ -6,4 +6,10 @@ pub mod Modules
 pub mod Paths
 pub mod Items
 pub mod Calls
+pub mod Keys
+pub mod SheetWords
 pub mod Sheets
+pub mod SheetsOnReadings
+pub mod SheetsOnRefusals
+pub mod SheetsOnTheItemList
+pub mod KeySheets
