@@ -14,7 +14,6 @@ use Rattle.laws.specs.Counting.{neither, none-passes, EachBelow, below-n
 
 pub record ItemRow (modules : ℕ) (i : Item) : Type 0 where
   pub module-below : i .inModule < modules
-  pub kind-most : i .kind ≤ 5
 
 pub record ImportRow (modules : ℕ) (i : Import) : Type 0 where
   pub importer-below : i .importer < modules
@@ -24,8 +23,6 @@ pub record ImportRow (modules : ℕ) (i : Import) : Type 0 where
 pub record NeedRow (items : ℕ) (n : Need) : Type 0 where
   pub dependant-below : n .dependant < items
   pub dependency-below : n .dependency < items
-  pub ends-differ : n .dependant ≡ n .dependency → ⊥
-  pub weight-most : n .weight ≤ 1
 
 -- "an accepted project is one that none of 1 to 9 turns down"
 pub record Accepted (p : Project) : Type 0 where
@@ -82,7 +79,7 @@ good-item : (modules : ℕ) (i : Item) → badItem modules i ≡ false → ItemR
 unfolding badItem
 good-item modules i e =
     let r = neither e in
-    record { module-below = leb-false modules (i .inModule) (r .0); kind-most = ltb-false 5 (i .kind) (r .1) }
+    record { module-below = leb-false modules (i .inModule) (r .0) }
 
 good-import : (modules : ℕ) (i : Import) → badImport modules i ≡ false → ImportRow modules i
 unfolding badImport
@@ -104,8 +101,6 @@ good-need items n e =
     record {
       dependant-below = leb-false items (n .dependant) (o .0);
       dependency-below = leb-false items (n .dependency) (o .1);
-      ends-differ = eqb-false (n .dependant) (n .dependency) (q .1);
-      weight-most = ltb-false 1 (n .weight) (r .1);
     }
 
 -- The nine tests of the table, none of which turns the bytes down.

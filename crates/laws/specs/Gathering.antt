@@ -30,14 +30,10 @@ pub ∈-listed : {lists : List (List ℕ)} {l : List ℕ} {m x : ℕ} → l ∈ 
 unfolding listedWith
 ∈-listed {lists} {m = m} h k n = ∈-different (rw flatten-flatMap (∈-flatMap (λ l. l) (∈-keep (elem m) h (true-elem k)) n))
 
--- Joining goes both ways and from one to the next.
+-- Joining goes from one to the next.
 pub joined-trans : {lists : List (List ℕ)} {a b c : ℕ} → Joined lists a b → Joined lists b c → Joined lists a c
 joined-trans (held l m n) k = chained l m n k
 joined-trans (chained l m n j) k = chained l m n (joined-trans j k)
-
-pub joined-sym : {lists : List (List ℕ)} {a b : ℕ} → Joined lists a b → Joined lists b a
-joined-sym (held l m n) = held l n m
-joined-sym (chained l m n j) = joined-trans (joined-sym j) (held l n m)
 
 pub joined-held : {lists : List (List ℕ)} {a b : ℕ} → Joined lists a b → (l : List ℕ) × (l ∈ lists) × (a ∈ l)
 joined-held (held {l = k} l m n) = (k, l, m)

@@ -166,12 +166,6 @@ module _ {A : Type 0} where
     none : Once []
     next : {x : A} {l : List A} → (x ∈ l → ⊥) → Once l → Once (x ∷ l)
 
-  pub once-head : {x : A} {l : List A} → Once (x ∷ l) → x ∈ l → ⊥
-  once-head (next f o) = f
-
-  pub once-tail : {x : A} {l : List A} → Once (x ∷ l) → Once l
-  once-tail (next f o) = o
-
   pub once-append : {s : List A} {t : List A} → Once s → Once t → ((x : A) → x ∈ s → x ∈ t → ⊥) → Once (s ++ t)
   once-append none o apart = o
   once-append {t = t} (next {x = x} {l = l} f p) o apart =

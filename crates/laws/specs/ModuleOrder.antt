@@ -1,16 +1,15 @@
 -- The module walk of an accepted project whose circles tie exactly the modules that reach each other, under any list limit and allowance: its
--- visits, and the entries of its list, stay within 2 × modules + imports; every group is a class, and the imports that leave it are done
--- before it. Assumes nothing.
+-- visits, and the entries of its list, stay within 2 × modules + imports, and the imports of a group that do not reach back are done before it.
+-- Assumes nothing.
 use Prim.Native.Nat.{ℕ, suc, pred, _+_, _≤_, _<_}
 use native.Mathlib.Omega.{arith}
 use mathlib.Core.Path.{_≡_, refl, sym, ap, subst⁻¹, _∙_}
-use mathlib.Core.Logic.{_↔_, _⊎_, inl, inr, ⊎-elim}
+use mathlib.Core.Logic.{_⊎_, inl, inr, ⊎-elim}
 use mathlib.Core.Bool.{Bool, true, false, not}
 use mathlib.Core.List.{List, [], _∷_, _++_, flatMap, append-nil, List·Memᴰ·head, List·Memᴰ·tail, List·Memᴰ·cases-cons, List·Memᴰ·eq-of-singleton, List·Memᴰ·not-nil}
 use lib.ListN.{length, length-append}
 use Rattle.rules.specs.Lists.{isEmpty, any, elem, upFrom}
 use Rattle.rules.specs.Project.{Project}
-use Rattle.rules.specs.Circles.{Tied}
 use Rattle.rules.specs.Walk.{Stop, finished, spent, full}
 use Rattle.rules.specs.Modules.{importsOf, importCount, ImportsModule, ReachesModule, ModuleState, moduleState, isDone, undoneImports, outsideImports, visitModule, moduleList, groupsOf, moduleWalk, moduleStart, runModules}
 use Rattle.rules.specs.Calls.{moduleListLimit}
@@ -21,15 +20,13 @@ use Rattle.laws.specs.Terms.{CirclesMatch, visitLimit}
 use Rattle.laws.specs.Accepted.{Accepted}
 use Rattle.laws.specs.ModuleVisit.{Visited, was-done, alone, uncircled, whole, gave-up, marked, visited, isDone-cons, done-now, done-still, undone-cons, importsOf-∈, undoneImports-∈, ∈-undoneImports, once-undoneImports, outsideImports-∈, ∈-outsideImports}
 use Rattle.laws.specs.ModuleWalk.{WalkedIn, outside-below, visit-keeps, walked-start}
-use Rattle.laws.specs.Classes.{Leads, here, on, Together, Class, leads-trans, together-self, together-sym, together-trans, import-back, class-alone, leads-below, together-tied, tied-together, circle-class, alone-class}
+use Rattle.laws.specs.Classes.{Leads, here, on, Together, Class, leads-trans, together-self, together-sym, together-trans, import-back, class-alone, leads-below, circle-class, alone-class}
 use Rattle.laws.specs.Sums.{except, except-∈, ∈-except, total-except, flatMap-total, count-most, imports-counted}
 
 -- What holds of a group and the groups made before it.
 pub record FollowsGroups (p : Project) (earlier : List (List ℕ)) (g : List ℕ) : Type 0 where
   -- "if module m imports n and n does not reach m", n is done before m
   pub imports-done : (m n : ℕ) → m ∈ g → n ∈ importsOf p m → (ReachesModule p n m → ⊥) → isDone earlier n ≡ true
-  -- each class is one group
-  pub one-class : (m n : ℕ) → m ∈ g → n < p .modules → (n ∈ g) ↔ ((n ≡ m) ⊎ Tied (p .circles) m n)
   pub new : (m : ℕ) → m ∈ g → isDone earlier m ≡ false
 
 -- Groups, latest first, each of which follows those made before it.
@@ -120,10 +117,7 @@ module _ {p : Project} {made m : ℕ} {fresh list marks : List ℕ} {groups : Li
         in-order = i .in-order;
       }
 
-  module _ (a : Accepted p) (q : CirclesMatch p) (below : m < p .modules) (undone : isDone groups m ≡ false) {class : List ℕ} (c : Class p m class) where
-    member-below : (x : ℕ) → x ∈ class → x < p .modules
-    member-below x h = leads-below a below (c .together x h .there)
-
+  module _ (a : Accepted p) (below : m < p .modules) (undone : isDone groups m ≡ false) {class : List ℕ} (c : Class p m class) where
     -- A class with no undone imports outside becomes a group.
     module _ (settled : isEmpty (outsideImports p groups class) ≡ true) where
       follows : FollowsGroups p groups class
@@ -131,10 +125,6 @@ module _ {p : Project} {made m : ℕ} {fresh list marks : List ℕ} {groups : Li
           record {
             imports-done = λ x n h k f.
                 go h k (λ o. f (import-back k (leads-trans (c .together n o .back) (c .together x h .there)))) (tested (isDone groups n));
-            one-class = λ x n h l. (
-              λ o. together-tied a q (member-below x h) (together-trans (together-sym (c .together x h)) (c .together n o)),
-              λ r. c .whole n (together-trans (c .together x h) (tied-together a q (member-below x h) l r)),
-            );
             new = λ x h. not-so (i .done-together x m (together-sym (c .together x h))) undone;
           }
         where
@@ -281,15 +271,15 @@ module _ {p : Project} (a : Accepted p) (q : CirclesMatch p) where
     ordered-on : {s : ModuleState} → Visited p m list marks groups s → OrderedFrom p (suc made) s
     ordered-on (was-done d) = (fresh, skipped i d)
     ordered-on (alone d e) =
-        (fresh, grouped i a q below d (class-alone (λ x t. alone-together d e x (t .there) (t .back))) (rw (undone-outside groups m) at e))
+        (fresh, grouped i a below d (class-alone (λ x t. alone-together d e x (t .there) (t .back))) (rw (undone-outside groups m) at e))
     ordered-on (uncircled d e c) =
         rw (undone-outside groups m)
-        (_, expanded i a q below d (alone-class a q below c) (rw (undone-outside groups m) at e) marks (λ x h. inr h))
-    ordered-on (whole d e c o) = (fresh, grouped i a q below d (circle-class a q below c) o)
+        (_, expanded i a below d (alone-class a q below c) (rw (undone-outside groups m) at e) marks (λ x h. inr h))
+    ordered-on (whole d e c o) = (fresh, grouped i a below d (circle-class a q below c) o)
     ordered-on (gave-up d e c o k) =
-        absurd (i .marks-expanded m (elem-true marks k) (front-fresh i a q below d (circle-class a q below c) o))
+        absurd (i .marks-expanded m (elem-true marks k) (front-fresh i a below d (circle-class a q below c) o))
     ordered-on (marked d e c o k) =
-        (_, expanded i a q below d (circle-class a q below c) o (m ∷ marks) (λ x h. List·Memᴰ·cases-cons h))
+        (_, expanded i a below d (circle-class a q below c) o (m ∷ marks) (λ x h. List·Memᴰ·cases-cons h))
 
   ordered-start : OrderedFrom p 0 (moduleStart p)
   unfolding moduleStart isDone any
@@ -346,19 +336,12 @@ module _ {p : Project} (a : Accepted p) (q : CirclesMatch p) (limit allowance : 
           spends {n = n} (omega (arith, length-without (isEmpty-false (moduleList s) e .1))) (omega arith)
       go (at-limit {n = n} s w e h) = let t = standing n s w in fills {n = n} (omega arith) (omega arith)
 
-  -- Where the walk ends, its groups are in order: each class is one group, and the imports that leave it are done before it.
+  -- Where the walk ends, its groups are in order.
   pub groups-in-order : (s : ModuleState) (n : ℕ) → runModules p limit allowance ≡ finished s n → InOrder p (groupsOf s)
   groups-in-order s n e = go (rw e at bounded)
     where
       go : Bounded p limit allowance (finished s n) → InOrder p (groupsOf s)
       go (finishes h k o) = o
-
-  -- The list never holds more entries than the visit limit.
-  pub never-full : visitLimit p ≤ limit → (n : ℕ) → runModules p limit allowance ≡ full n → ⊥
-  never-full room n e = go (rw e at bounded)
-    where
-      go : Bounded p limit allowance (full n) → ⊥
-      go (fills h k) = omega arith
 
   -- "an allowance of 2 × M + imports": the walk ends.
   pub walk-ends : visitLimit p ≤ limit → visitLimit p ≤ allowance → (s : ModuleState) × (n : ℕ) × (runModules p limit allowance ≡ finished s n)

@@ -15,16 +15,15 @@ use Rattle.rules.specs.Walk.{finished}
 use Rattle.rules.specs.Modules.{ModuleState, moduleState, isDone, undoneImports, circleOf, outsideImports, visitModule, moduleList, groupsOf, moduleWalk, moduleStart, runModules, groupsInOrder}
 use Rattle.rules.specs.Calls.{groupsBytes, groupBytes}
 use Rattle.laws.specs.Lists.{_∈_, false≢true, Tested, holds, fails, tested, ∈-self, ∈-append, ∈-right, reverse-∈, isEmpty-true, Once, none, next, appendNew-∈, ∈-appendNew-left, once-appendNew, upFrom-∈, ∈-upFrom}
-use Rattle.laws.specs.Counting.{Below, below-nil, below-cons, below-length, flatMap-length, ∈-isEmpty, ∈-rest}
+use Rattle.laws.specs.Counting.{Below, below-nil, below-cons, below-length, flatMap-length, ∈-rest}
 use Rattle.laws.specs.Runs.{Stopped, at-end, stopped}
 use Rattle.laws.specs.Accepted.{Accepted}
 use Rattle.laws.specs.ModuleVisit.{Visited, was-done, alone, uncircled, whole, gave-up, marked, visited, done-now, done-still, undone-cons, importsOf-∈, undoneImports-∈, outsideImports-∈}
 use Rattle.laws.specs.Gathering.{circle-of, circle-self, circle-below}
 
--- The members of a group: each once, at least one, all below the bound.
+-- The members of a group: each once, all below the bound.
 pub record Members (bound : ℕ) (g : List ℕ) : Type 0 where
   pub once : Once g
-  pub filled : isEmpty g ≡ false
   pub below : Below bound g
 
 -- Groups, latest first, each with a member that no earlier group lists.
@@ -44,7 +43,7 @@ module _ {bound : ℕ} where
   pub made-members : {groups : List (List ℕ)} → Made bound groups → (g : List ℕ) → g ∈ groups → Members bound g
   made-members none-made g h = absurd (List·Memᴰ·not-nil h)
   made-members (then-made m k d o b r) g h =
-      ⊎-elim (λ e. subst⁻¹ (Members bound) e (record { once = o; filled = ∈-isEmpty k; below = b })) (made-members r g) (List·Memᴰ·cases-cons h)
+      ⊎-elim (λ e. subst⁻¹ (Members bound) e (record { once = o; below = b })) (made-members r g) (List·Memᴰ·cases-cons h)
 
   pick : {groups : List (List ℕ)} → Made bound groups → (picked : List ℕ) × Picked bound groups picked
   pick none-made = ([], record { once = none; below = below-nil; done = λ x h. absurd (List·Memᴰ·not-nil h); count = refl })

@@ -1,7 +1,7 @@
 -- Further laws on tests and lists: lengths, images, positions, and which of two entries stands before the other. Assumes nothing.
 use Prim.Native.Nat.{ℕ, zero, suc, _+_, _≤_, _<_}
 use native.Mathlib.Omega.{arith}
-use mathlib.Core.Path.{_≡_, refl, sym, ap}
+use mathlib.Core.Path.{_≡_, refl, sym}
 use mathlib.Core.Logic.{_⊎_, inl, inr, ⊎-elim}
 use mathlib.Core.Bool.{Bool, true, false, not, _&&_, _||_}
 use mathlib.Core.List.{List, [], _∷_, _++_, map, flatMap, reverse, reverse-cons, reverse-reverse, append-nil, List·Memᴰ·head, List·Memᴰ·tail, List·Memᴰ·not-nil, Memᴰ·cast, Memᴰ·map, Memᴰ·of-map}
@@ -156,7 +156,3 @@ module _ {A B : Type 0} where
   pub before-map : (f : A → B) (l : List A) {c d : B} → Before c d (map f l) → (a : A) × (b : A) × Before a b l × (f a ≡ c) × (f b ≡ d)
   before-map f (x ∷ l) (here e m) = let r = Memᴰ·of-map f l m in (x, r .0, here refl (r .1), sym e, r .2)
   before-map f (x ∷ l) (later h) = let r = before-map f l h in (r .0, r .1, later (r .2), r .3, r .4)
-
-  pub map-before : (f : A → B) {l : List A} {a b : A} → Before a b l → Before (f a) (f b) (map f l)
-  map-before f (here e m) = here (ap f e) (Memᴰ·map f m)
-  map-before f (later h) = later (map-before f h)
