@@ -1,9 +1,11 @@
 pub mod Kinds
+pub mod Decoded
 pub mod Readers
 pub mod Answers
 pub mod Sections
 pub mod Passed
 pub mod KindLaws
+pub mod DecodedLaws
 pub mod RowLaws
 pub mod ReaderLaws
 pub mod SectionLaws

@@ -1,6 +1,9 @@
 // The header of a project: numbers 2 to 5 of the paper's table, and the layout. Tests are joined by `|`, as in their definitions.
 use super::Layout;
 use super::ModuleId;
+use super::sections::ImportRow;
+use super::sections::ItemRow;
+use super::sections::NeedRow;
 ghost use mathlib.Core.Path.{_≡_};
 ghost use mathlib.Core.Bool.{not};
 ghost use Prim.Native.Nat.{_+_, _*_, _≤_};
@@ -9,6 +12,15 @@ ghost use lib.ListN.{length};
 ghost use Rattle.rules.specs.Project.{number32, offsetOf, lengthOf, endOf, foreign, misplaced, ragged, outsize};
 ghost use Rattle.project.specs.Answers.{layoutOf};
 ghost use Rattle.project.specs.Passed.{HasSection};
+
+// Where the first section starts, and the bytes of a row, as numbers of the header.
+const START: u32 = Layout::START as u32;
+
+const ITEM_BYTES: u32 = ItemRow::BYTES as u32;
+
+const IMPORT_BYTES: u32 = ImportRow::BYTES as u32;
+
+const NEED_BYTES: u32 = NeedRow::BYTES as u32;
 
 // Four bytes as a number, the lowest first.
 fn little_endian(a: u8, b: u8, c: u8, d: u8) -> u32
@@ -70,7 +82,7 @@ pub fn misplaced(bytes: &[u8]) -> bool
     requires { ⌜ 36 ≤ length (now bytes) ⌝ }
     ensures { λ r. ⌜ r ≡ misplaced (now (bytes .entry)) ⌝ }
 {
-    (offset_of(bytes, 0) != 36)
+    (offset_of(bytes, 0) != START)
         | starts_apart(bytes, 0)
         | starts_apart(bytes, 1)
         | starts_apart(bytes, 2)
@@ -82,7 +94,9 @@ pub fn ragged(bytes: &[u8]) -> bool
     requires { ⌜ 36 ≤ length (now bytes) ⌝ }
     ensures { λ r. ⌜ r ≡ ragged (now (bytes .entry)) ⌝ }
 {
-    (length_of(bytes, 0) % 2 != 0) | (length_of(bytes, 1) % 2 != 0) | (length_of(bytes, 3) % 3 != 0)
+    (length_of(bytes, 0) % ITEM_BYTES != 0)
+        | (length_of(bytes, 1) % IMPORT_BYTES != 0)
+        | (length_of(bytes, 3) % NEED_BYTES != 0)
 }
 
 // 5, "M, entry or a section outside its limit".
@@ -94,10 +108,10 @@ pub fn outsize(bytes: &[u8]) -> bool
     (modules == 0)
         | (Layout::MODULES < modules)
         | (modules <= bytes[2])
-        | (2 * Layout::ITEMS < length_of(bytes, 0))
-        | (2 * Layout::IMPORTS < length_of(bytes, 1))
+        | (ITEM_BYTES * Layout::ITEMS < length_of(bytes, 0))
+        | (IMPORT_BYTES * Layout::IMPORTS < length_of(bytes, 1))
         | (Layout::CIRCLE_BYTES < length_of(bytes, 2))
-        | (3 * Layout::NEEDS < length_of(bytes, 3))
+        | (NEED_BYTES * Layout::NEEDS < length_of(bytes, 3))
 }
 
 // The layout that the header gives.

@@ -3,17 +3,21 @@ mod header;
 pub mod kinds;
 mod reader;
 mod rows;
+pub mod sections;
 
 ghost use mathlib.Core.Path.{_≡_};
 ghost use Rattle.rules.specs.Project.{read};
 ghost use Rattle.project.specs.Answers.{answerOf};
 ghost use Rattle.project.specs.Passed.{Measured, PassesHeader};
 
-// The number of a module.
+// The number of a module. Modules and items are counted separately.
 pub struct ModuleId(pub u8);
 
-// The number of an item: the position of its row. Modules and items are counted separately.
+// The number of an item: the position of its row.
 pub struct ItemId(pub u16);
+
+// The number that an item has within its group, as a node of the group's graph.
+pub struct NodeId(pub u16);
 
 // What the header of a project says. The items start at byte 36, each other section starts where the one before it ends, and the needs end
 // with the input.
@@ -43,6 +47,15 @@ impl Layout {
 
     // The most needs.
     pub const NEEDS: u32 = 2048;
+
+    // The limits as sizes of arrays.
+    pub const MODULE_ROOM: usize = Self::MODULES as usize;
+
+    pub const ITEM_ROOM: usize = Self::ITEMS as usize;
+
+    pub const IMPORT_ROOM: usize = Self::IMPORTS as usize;
+
+    pub const NEED_ROOM: usize = Self::NEEDS as usize;
 }
 
 // What reading gives: the number of the first test of the table that turns the bytes down, or the layout.
@@ -99,7 +112,7 @@ fn read_rows(bytes: &[u8], l: Layout) -> Reading
     if rows::bad_circles(&bytes[imports_end..circles_end], modules) {
         return Reading::Refused(8);
     }
-    let items = ((items_end - Layout::START) / 2) as u16;
+    let items = ((items_end - Layout::START) / sections::ItemRow::BYTES) as u16;
     if rows::bad_needs(&bytes[circles_end..], items) {
         return Reading::Refused(9);
     }

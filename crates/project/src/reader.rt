@@ -1,9 +1,13 @@
 // Reading a section row by row, by a struct that holds its bytes and a position. Functions over such a struct are proved by hand, so they are few and
 // thin: each takes it apart and leaves the work to a function on the slice and the number, which stands above it.
 use super::rows;
+use super::sections;
+use super::sections::ImportRow;
+use super::sections::ItemRow;
+use super::sections::NeedRow;
 ghost use mathlib.Core.Path.{_≡_};
 ghost use Prim.Native.Nat.{_+_, _^_, _≤_, _<_};
-ghost use lib.ListN.{length, drop};
+ghost use lib.ListN.{length, take, drop};
 ghost use Rattle.project.specs.Readers.{width, hasRow, badRow, goodRow, anyBad, readerAt, past};
 
 // What the rows of a section are held to: the number of modules, or of items.
@@ -18,9 +22,9 @@ fn width(check: Check) -> usize
     ensures { λ r. ⌜ r ≡ width check ⌝ }
 {
     match check {
-        Check::Items(_) => 2,
-        Check::Imports(_) => 2,
-        Check::Needs(_) => 3,
+        Check::Items(_) => ItemRow::BYTES,
+        Check::Imports(_) => ImportRow::BYTES,
+        Check::Needs(_) => NeedRow::BYTES,
     }
 }
 
@@ -37,10 +41,11 @@ fn bad_row_at(bytes: &[u8], at: usize, check: Check) -> bool
     requires { ⌜ at + width check ≤ length (now bytes) ⌝ }
     ensures { λ r. ⌜ r ≡ badRow check (now (bytes .entry)) at ⌝ }
 {
+    let row = &bytes[at..];
     match check {
-        Check::Items(modules) => rows::bad_item(bytes[at], bytes[at + 1], modules),
-        Check::Imports(modules) => rows::bad_import(bytes[at], bytes[at + 1], modules),
-        Check::Needs(items) => rows::bad_need(bytes[at], bytes[at + 1], bytes[at + 2], items),
+        Check::Items(modules) => rows::bad_item(sections::item_of(row), modules),
+        Check::Imports(modules) => rows::bad_import(sections::import_of(row), modules),
+        Check::Needs(items) => rows::bad_need(sections::need_of(row), items),
     }
 }
 
@@ -72,6 +77,15 @@ fn rest_at(bytes: &[u8], at: usize) -> &[u8]
     &bytes[at..]
 }
 
+// The n bytes from a position on.
+fn next_bytes_at(bytes: &[u8], at: usize, n: usize) -> &[u8]
+    requires { ⌜ at + n ≤ length (now bytes) ⌝ }
+    ensures { λ r. ⌜ now r ≡ take n (drop at (now (bytes .entry))) ⌝ }
+{
+    let end = at + n;
+    &bytes[at..end]
+}
+
 // The bytes of a section, and a position in them.
 pub struct Reader<'a> {
     bytes: &'a [u8],
@@ -79,10 +93,10 @@ pub struct Reader<'a> {
 }
 
 impl<'a> Reader<'a> {
-    fn new(bytes: &'a [u8]) -> Reader<'a>
-        ensures { λ r. ⌜ r ≡ readerAt (bytes .entry) 0 ⌝ }
+    fn new(bytes: &'a [u8], at: usize) -> Reader<'a>
+        ensures { λ r. ⌜ r ≡ readerAt (bytes .entry) at ⌝ }
     {
-        Reader { bytes, at: 0 }
+        Reader { bytes, at }
     }
 
     // Whether a whole row is next, and it is not bad.
@@ -111,6 +125,14 @@ impl<'a> Reader<'a> {
     {
         rest_at(self.bytes, self.at)
     }
+
+    // The next n bytes.
+    fn next_bytes(self, n: usize) -> &'a [u8]
+        requires { ⌜ self .at + n ≤ length (now (self .bytes)) ⌝ }
+        ensures { λ r. ⌜ now r ≡ take n (drop (self .entry .at) (now (self .entry .bytes))) ⌝ }
+    {
+        next_bytes_at(self.bytes, self.at, n)
+    }
 }
 
 // 6, 7 or 9, of a whole section. The reader goes on while rows are good: it ends at a bad row, or where no row is left. A caller has a plain slice,
@@ -118,9 +140,17 @@ impl<'a> Reader<'a> {
 pub fn any_bad(section: &[u8], check: Check) -> bool
     ensures { λ r. ⌜ r ≡ anyBad check (now (section .entry)) ⌝ }
 {
-    let mut rows = Reader::new(section);
+    let mut rows = Reader::new(section, 0);
     while rows.good_row(check) {
         rows = rows.past_row(check);
     }
     has_row_at(rows.rest(), 0, check)
+}
+
+// The n bytes of a section from a position on: a row, or the members of a list. A caller has a plain slice here too.
+pub fn read_bytes(section: &[u8], at: usize, n: usize) -> &[u8]
+    requires { ⌜ at + n ≤ length (now section) ⌝ }
+    ensures { λ r. ⌜ now r ≡ take n (drop at (now (section .entry))) ⌝ }
+{
+    Reader::new(section, at).next_bytes(n)
 }

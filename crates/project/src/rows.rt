@@ -4,10 +4,14 @@ use super::kinds;
 use super::kinds::Kind;
 use super::reader;
 use super::reader::Check;
+use super::sections::ImportRow;
+use super::sections::ItemRow;
+use super::sections::NeedRow;
 ghost use mathlib.Core.Path.{_≡_};
 ghost use Rattle.rules.specs.Lists.{any};
-ghost use Rattle.rules.specs.Project.{itemRow, importRow, needRow, pairRows, needRows, badItem, badImport, badCircles, badNeed};
+ghost use Rattle.rules.specs.Project.{itemRow, importRow, pairRows, needRows, badItem, badImport, badCircles, badNeed};
 ghost use Rattle.project.specs.Kinds.{isRefused};
+ghost use Rattle.project.specs.Decoded.{itemIn, importIn, needIn};
 
 // Whether a kind byte is above 5.
 fn is_refused(k: Kind) -> bool
@@ -24,27 +28,28 @@ fn is_refused(k: Kind) -> bool
 }
 
 // 6, of one row.
-pub fn bad_item(in_module: u8, kind: u8, modules: u8) -> bool
-    ensures { λ r. ⌜ r ≡ badItem modules (itemRow «in_module» kind) ⌝ }
+pub fn bad_item(row: ItemRow, modules: u8) -> bool
+    ensures { λ r. ⌜ r ≡ badItem modules (itemIn row) ⌝ }
 {
-    (modules <= in_module) | is_refused(kinds::kind_of(kind))
+    (modules <= row.in_module.0) | is_refused(kinds::kind_of(row.kind))
 }
 
 // 7, of one row.
-pub fn bad_import(importer: u8, imported: u8, modules: u8) -> bool
-    ensures { λ r. ⌜ r ≡ badImport modules (importRow importer imported) ⌝ }
+pub fn bad_import(row: ImportRow, modules: u8) -> bool
+    ensures { λ r. ⌜ r ≡ badImport modules (importIn row) ⌝ }
 {
+    let importer = row.importer.0;
+    let imported = row.imported.0;
     (modules <= importer) | (modules <= imported) | (importer == imported)
 }
 
 // 9, of one row.
-pub fn bad_need(dependant: u8, dependency: u8, weight: u8, items: u16) -> bool
-    ensures { λ r. ⌜ r ≡ badNeed items (needRow dependant dependency weight) ⌝ }
+pub fn bad_need(row: NeedRow, items: u16) -> bool
+    ensures { λ r. ⌜ r ≡ badNeed items (needIn row) ⌝ }
 {
-    (items <= dependant as u16)
-        | (items <= dependency as u16)
-        | (dependant == dependency)
-        | (1 < weight)
+    let dependant = row.dependant.0;
+    let dependency = row.dependency.0;
+    (items <= dependant) | (items <= dependency) | (dependant == dependency) | (1 < row.weight)
 }
 
 // 6, "module not below M, or kind above 5".

@@ -157,17 +157,17 @@ module _ {M : Type 1} (𝓤 : URA M) (H : Heap 𝓤) (A : Atoms 𝓤) (W : Given
 
   -- ---- the call of `new`
   abbrev to-new : New 𝓤 H A mem run .Ghost
-  to-new = (((κ, tt), (q, tt), tt, (s, tt), (v ∷ [], tt)), tt)
+  to-new = (((κ, tt), (q, tt), tt, (s, (0, tt)), (v ∷ [], (vint w64 0 ∷ [], tt))), tt)
 
   goes-new : ent 𝓤 (onEntry 𝓤 H A any-bad.signature (κ, tt) (q, tt) (s, (c, tt)) (v ∷ [], (w c ∷ [], tt))) (sep 𝓤 (New 𝓤 H A mem run .pre to-new) (sem 𝓤 H A Owned))
   goes-new =
       qed W (Token κ q ∷ ‵ (owns (ShrSlice (named 0) κ u8 ∷ S.the-row ∷ []) (s, (c, tt)) (v ∷ [], (w c ∷ [], tt))) ∷ []) ∵
       move ! (1 ∷ []) $ fsplit ! $ move ! (1 ∷ []) $ drop ! $ use1 W (‵ Owned ⊛ ‵ Owned) (shr-slice-copy 𝓤 H A W (named 0) κ u8 .twice s (v ∷ [])) $ split ! $
-      nothing ! $ move ! (1 ∷ 0 ∷ []) $ fjoin ! $ move ! (2 ∷ 0 ∷ []) $
-      use2 W (raw (New 𝓤 H A mem run .pre to-new)) (qed W (Token κ q ∷ ‵ (owns (ShrSlice (named 0) κ u8 ∷ []) (s, tt) (v ∷ [], tt)) ∷ []) ∵ join ! $ frame ! $ done !) $ frame ! $ done !
+      nothing ! $ owned ! usize (Is usize) (uint-makes 𝓤 H A W w64) 0 _ (refl, omega arith) $ fjoin ! $ move ! (1 ∷ 0 ∷ []) $ fjoin ! $ move ! (2 ∷ 0 ∷ []) $
+      use2 W (raw (New 𝓤 H A mem run .pre to-new)) (qed W (Token κ q ∷ ‵ (owns (ShrSlice (named 0) κ u8 ∷ usize ∷ []) (s, (0, tt)) (v ∷ [], (vint w64 0 ∷ [], tt))) ∷ []) ∵ join ! $ frame ! $ done !) $ frame ! $ done !
 
-  new-said : (r : Reader) → ent 𝓤 (ensured 𝓤 H A new.ended (new.clauses 𝓤 H A mem run) (κ, tt) (s, tt) tt r) (fact 𝓤 (r ≡ readerAt s 0))
-  new-said r = exE 𝓤 _ (λ ws. snd∗ 𝓤 (sem 𝓤 H A (lasts new.ended (κ, tt) (s, tt) ws)) (fact 𝓤 (r ≡ readerAt s 0)))
+  new-said : (r : Reader) → ent 𝓤 (ensured 𝓤 H A new.ended (new.clauses 𝓤 H A mem run) (κ, tt) (s, (0, tt)) tt r) (fact 𝓤 (r ≡ readerAt s 0))
+  new-said r = exE 𝓤 _ (λ ws. snd∗ 𝓤 (sem 𝓤 H A (lasts new.ended (κ, tt) (s, (0, tt)) ws)) (fact 𝓤 (r ≡ readerAt s 0)))
 
   -- ---- the calls of `good_row` and `past_row`, on the reader r with the machine value u
   abbrev to : Reader → Val → Good 𝓤 H A mem run .Ghost
@@ -318,8 +318,8 @@ module _ {M : Type 1} (𝓤 : URA M) (H : Heap 𝓤) (A : Atoms 𝓤) (W : Given
       alloc1 ! (λ l₀. alloc1 ! (λ l₁. alloc1 ! (λ l₂. alloc1 ! (λ l₃. alloc1 ! (λ l₄. alloc1 ! (λ l₅. alloc1 ! (λ l₆. alloc1 ! (λ l₇. alloc1 ! (λ l₈. alloc0 ! $ params1 ! $
       pass1 ! (init ! 14 refl wt) $ pass1 ! (init ! 12 refl (check-typed 𝓤 H A W c is-c)) $ pass0 ! $
       move ! (18 ∷ []) $ use1 W (raw (New 𝓤 H A mem run .pre to-new) ⊛ ‵ Owned) goes-new $ split ! $
-      calls-at ! (fmOf 𝓤 H (W .laws) 𝓣) (New 𝓤 H A mem run) (known .new-met) to-new (and-then ! (load ! (from ! (stop !)) (look ! 16 refl)) (no-more !)) (λ u.
-      use1 W (later (some (λ (r : Reader). (Token κ q ⊛ Owns r u) ⊛ raw (ensured 𝓤 H A new.ended (new.clauses 𝓤 H A mem run) (κ, tt) (s, tt) tt r)))) (id⊢ 𝓤 _) $ await ! tt $ pick ! (λ r.
+      calls-at ! (fmOf 𝓤 H (W .laws) 𝓣) (New 𝓤 H A mem run) (known .new-met) to-new (and-then ! (load ! (from ! (stop !)) (look ! 16 refl)) (and-then ! (lit ! tt) (no-more !))) (λ u.
+      use1 W (later (some (λ (r : Reader). (Token κ q ⊛ Owns r u) ⊛ raw (ensured 𝓤 H A new.ended (new.clauses 𝓤 H A mem run) (κ, tt) (s, (0, tt)) tt r)))) (id⊢ 𝓤 _) $ await ! tt $ pick ! (λ r.
       split ! $ move ! (1 ∷ []) $ use1 W (raw (fact 𝓤 (r ≡ readerAt s 0))) (new-said r) $ heard ! (r ≡ readerAt s 0) (λ e. split ! $ move ! (1 ∷ []) $
       -- [what the reader owns; the token; what section owns; room for _8; …; room for _3; …; _2; …; _1; …; room for _0; …]
       peeks ! (B (κ, tt)) (Is (B (κ, tt))) (shows 𝓤 H A (B (κ, tt))) r (u ∷ []) (λ is.
