@@ -22,9 +22,10 @@ use Rattle.laws.specs.Accepted.{Accepted}
 use Rattle.laws.specs.Gathering.{circle-none, gather-deeper, circle-of}
 use Rattle.lists.specs.Bits.{bit}
 use Rattle.lists.specs.BitLaws.{bit-zero}
+use Rattle.project.specs.Decoded.{listAt}
 use Rattle.chunk.specs.declared.circles.Gathered.{Gathered}
 use Rattle.chunk.specs.declared.circles.Following.{Following}
-use Rattle.chunk.specs.Circles.{Marks, nothing, gatheredOn, Gathers, Grows, Appended, Listed, unnoted, unfollowed, Represents, moduleFollowed, membersFollowed, FollowsModule, FollowsMembers, ModuleReady, CircleReady, CircleGathered}
+use Rattle.chunk.specs.Circles.{Marks, nothing, nothingFollowed, gatheredOn, Gathers, Grows, Appended, Listed, unnoted, unfollowed, Represents, moduleFollowed, membersFollowed, FollowsModule, FollowsMembers, ModuleReady, CircleReady, CircleGathered}
 
 -- Whether a list holds x, from a position on.
 module _ (x : ℕ) (l : List ℕ) (i : ℕ) where
@@ -193,31 +194,31 @@ first-list bound (suc n) (m ∷ bytes) e =
       lists = ap (joinFirst m) (f .lists);
     }
 
--- Where the list ends whose count byte stands at `i`, and its members, as the code takes them.
+-- Where the list ends whose count byte stands at `i`.
 abbrev pub endAt : List ℕ → ℕ → ℕ
-endAt section i = i + 1 + getD section i 0
-
-abbrev pub membersAt : List ℕ → ℕ → List ℕ
-membersAt section i = take (endAt section i - (i + 1)) (drop (i + 1) section)
+endAt section i = i + (1 + length (listAt section i))
 
 pub record ListAt (section : List ℕ) (i : ℕ) : Type 0 where
+  pub fits : i + 1 + getD section i 0 ≤ length section
   pub within : endAt section i ≤ length section
-  pub below : Below moduleLimit (membersAt section i)
+  pub below : Below moduleLimit (listAt section i)
   pub sound : badCircles moduleLimit 0 (drop (endAt section i) section) ≡ false
-  pub lists : circleLists (drop i section) ≡ membersAt section i ∷ circleLists (drop (endAt section i) section)
+  pub lists : circleLists (drop i section) ≡ listAt section i ∷ circleLists (drop (endAt section i) section)
 
 pub list-at : (section : List ℕ) (i : ℕ) → i < length section → badCircles moduleLimit 0 (drop i section) ≡ false → ListAt section i
 unfolding badCircles circleLists listsFrom
 list-at section i h e =
     let n : ℕ = getD section i 0 in
     let here : drop i section ≡ n ∷ drop (i + 1) section = rw add-one (drop-cons section i 0 h) in
-    let size : endAt section i - (i + 1) ≡ n = omega arith in
     let f = first-list moduleLimit n (drop (i + 1) section) (rw here at e) in
+    let fits : i + 1 + n ≤ length section = let w = f .within in omega (arith, length-drop (i + 1) section) in
+    let end : i + 1 + n ≡ endAt section i = omega (arith, length-take-le n (drop (i + 1) section) (f .within)) in
     record {
-      within = let w = f .within in omega (arith, length-drop (i + 1) section);
-      below = rw size (f .below);
-      sound = rw drop-drop at (f .sound);
-      lists = rw (here, size) (rw drop-drop at (f .lists));
+      fits = fits;
+      within = omega arith;
+      below = f .below;
+      sound = rw (drop-drop, end) at (f .sound);
+      lists = rw here (rw (drop-drop, end) at (f .lists));
     }
 
 -- Gathering from the lists that hold a module: what the lists from position `i` on still add makes it whole, and they are sound.
@@ -234,19 +235,19 @@ module _ (section : List ℕ) (m : ℕ) (before : List ℕ) where
       subst⁻¹ (Listing section m before 0 before) e (record { whole = refl; sound = b; grows = grows-none (gathers-nothing h) })
 
   module _ {i : ℕ} {array : List ℕ} {g : Gathered} (l : Listing section m before i array g) (t : ListAt section i) where
-    pub listing-held : {after : List ℕ} {r : Gathered} → elem m (membersAt section i) ≡ true → Appended array after g r (membersAt section i)
+    pub listing-held : {after : List ℕ} {r : Gathered} → elem m (listAt section i) ≡ true → Appended array after g r (listAt section i)
         → Listing section m before (endAt section i) after r
     unfolding flatten keep consIf
     listing-held e a =
         let k : List ℕ = flatten (keep (elem m) (circleLists (drop (endAt section i) section))) in
         record {
-          whole = ap (λ (x : List ℕ). appendNew x k) (a .front) ∙ sym (appendNew-append (gatheredOn array g) (membersAt section i) k)
+          whole = ap (λ (x : List ℕ). appendNew x k) (a .front) ∙ sym (appendNew-append (gatheredOn array g) (listAt section i) k)
               ∙ rw (t .lists, e) at (l .whole);
           sound = t .sound;
           grows = grows-trans (l .grows) (a .grows);
         }
 
-    pub listing-other : elem m (membersAt section i) ≡ false → Listing section m before (endAt section i) array g
+    pub listing-other : elem m (listAt section i) ≡ false → Listing section m before (endAt section i) array g
     unfolding flatten keep consIf
     listing-other e = record { whole = rw (t .lists, e) at (l .whole); sound = t .sound; grows = l .grows }
 
@@ -260,11 +261,11 @@ pub record Looking (section : List ℕ) (m i : ℕ) : Type 0 where
   pub sound : badCircles moduleLimit 0 (drop i section) ≡ false
 
 module _ (section : List ℕ) (m i : ℕ) (s : Looking section m i) where
-  pub looking-held : ListAt section i → elem m (membersAt section i) ≡ true → any (elem m) (circleLists section) ≡ true
+  pub looking-held : ListAt section i → elem m (listAt section i) ≡ true → any (elem m) (circleLists section) ≡ true
   unfolding any
   looking-held t e = sym (s .same) ∙ rw (t .lists, e)
 
-  pub looking-other : ListAt section i → elem m (membersAt section i) ≡ false → Looking section m (endAt section i)
+  pub looking-other : ListAt section i → elem m (listAt section i) ≡ false → Looking section m (endAt section i)
   unfolding any
   looking-other t e = record { same = rw (t .lists, e) at (s .same); sound = t .sound }
 
@@ -511,13 +512,12 @@ circle-nothing {section} {m} {before} ready f e =
       grows = grows-none (gathers-nothing (ready .room));
     })
 
-module _ (section : List ℕ) (m : ℕ) {before array : List ℕ} {g : Gathered} (ready : CircleReady section m before) (e : g ≡ nothing) where
-  pub module-ready : moduleLimit ≤ length array → ModuleReady section m array (record { gathered = g; noted = 0 })
+module _ (section : List ℕ) (m : ℕ) {before array : List ℕ} {s : Following} (ready : CircleReady section m before) (e : s ≡ nothingFollowed) where
+  pub module-ready : moduleLimit ≤ length array → ModuleReady section m array s
   module-ready h =
-      record { sound = ready .sound; below = ready .below; to-follow = bit-zero m; gathers = rw e (gathers-nothing h) }
+      rw e (record { sound = ready .sound; below = ready .below; to-follow = bit-zero m; gathers = gathers-nothing h })
 
-  pub circle-gathered : {after : List ℕ} {r : Following}
-      → FollowsModule section m array after (record { gathered = g; noted = 0 }) r
+  pub circle-gathered : {after : List ℕ} {r : Following} → FollowsModule section m array after s r
       → CircleGathered section m before (reverse (gatheredOn after (r .gathered)) ++ drop (length (gatheredOn after (r .gathered))) before) (r .gathered)
   unfolding circleOf
   circle-gathered f =

@@ -24,6 +24,10 @@ Marks word list = (j : ℕ) → bit word j ≡ elem j list
 abbrev pub nothing : Gathered
 nothing = record { have = 0; count = 0 }
 
+-- Nothing gathered, and no module followed.
+abbrev pub nothingFollowed : Following
+nothingFollowed = record { gathered = nothing; noted = 0 }
+
 -- The modules gathered on an array: its first `count` bytes.
 abbrev pub gatheredOn : List ℕ → Gathered → List ℕ
 gatheredOn array g = take (g .count) array

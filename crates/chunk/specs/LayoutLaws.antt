@@ -1,12 +1,11 @@
 -- Laying the import rows out: what holds in the midst of it, row by row, and at its end. Assumes nothing.
 use Prim.Native.Nat.{ℕ, suc, _+_, _-_, _≤_, _<_}
 use native.Mathlib.Omega.{arith}
-use native.Mathlib.Numerals.{add-one, add-two}
 use mathlib.Core.Path.{_≡_, refl, sym, ap, subst, _∙_}
 use mathlib.Core.List.{List, [], _∷_, map, zipWith, List·Memᴰ·tail}
 use lib.Dec.{eqb, ltb}
-use lib.ListN.{length, getD, drop, length-drop}
-use lib.Seq.{drop-cons, getD-drop}
+use lib.ListN.{length, getD, drop}
+use lib.Seq.{getD-drop}
 use borrow.Author.Tests.{ltb-true, ltb-false}
 use Rattle.rules.specs.Lists.{keep, any, different}
 use Rattle.rules.specs.Project.{Import, importRow, pairRows, importLimit, moduleLimit}
@@ -17,22 +16,8 @@ use Rattle.lists.specs.BitLaws.{cell-below}
 use Rattle.lists.specs.Pairs.{Pair, pair, holdsPair, addPairs, differentPairs, pairsOf, secondsOf, Seen, Room, Added, Onward, Linkable, Linked}
 use Rattle.lists.specs.PairLaws.{length-pairs, length-addPair, seen-none, seen-added, store-below, different-seconds, targets-seconds}
 use Rattle.lists.specs.ChainLaws.{targets-more}
+use Rattle.project.specs.RowLaws.{pairs-at, pairs-end}
 use Rattle.chunk.specs.Imports.{FitRows, Laid}
-
--- The rows of a section, one by one.
-module _ {A : Type 0} (row : ℕ → ℕ → A) (l : List ℕ) (i : ℕ) where
-  pub rows-step : i + 1 < length l → pairRows row (drop i l) ≡ row (getD l i 0) (getD l (i + 1) 0) ∷ pairRows row (drop (i + 2) l)
-  unfolding pairRows
-  rows-step h = rw (add-one, add-two) (rw (drop-cons l i 0 (omega arith), drop-cons l (suc i) 0 (omega arith)))
-
-  pub rows-end : length l ≤ i + 1 → pairRows row (drop i l) ≡ []
-  unfolding pairRows
-  rows-end h = go (drop i l) (omega (arith, length-drop i l))
-    where
-      go : (k : List ℕ) → length k ≤ 1 → pairRows row k ≡ []
-      go [] g = refl
-      go (a ∷ []) g = refl
-      go (a ∷ b ∷ k) g = absurd (omega arith)
 
 -- an import row as a pair
 abbrev pub asPair : Import → Pair
@@ -116,7 +101,7 @@ module _ {rows rest : List Import} {a b : ℕ} {seen from to : List ℕ} {n : �
 module _ {rows : List Import} {seen from to : List ℕ} {n : ℕ} (section : List ℕ) (i : ℕ) (within : i + 1 < length section)
     (l : Laying rows (pairRows importRow (drop i section)) seen from to n) where
   split : Laying rows (importRow (getD section i 0) (getD section (i + 1) 0) ∷ pairRows importRow (drop (i + 2) section)) seen from to n
-  split = subst (λ (rest : List Import). Laying rows rest seen from to n) (rows-step importRow section i within) l
+  split = subst (λ (rest : List Import). Laying rows rest seen from to n) (pairs-at importRow section i within) l
 
   pub laying-room : Room moduleLimit (getD section i 0) (getD section (i + 1) 0) seen from to n
   laying-room = row-room split
@@ -142,7 +127,7 @@ module _ {rows : List Import} {seen from to : List ℕ} {n : ℕ} (section : Lis
     (heads-size : length heads ≡ moduleLimit) (next-size : length next ≡ importLimit) (z : Zeros moduleLimit heads₀) (w : Zeros importLimit next₀)
     (k : Linked 0 from n heads₀ next₀ heads next) where
   l : Laying rows [] seen from to n
-  l = subst (λ (rest : List Import). Laying rows rest seen from to n) (rows-end importRow section i all) laying
+  l = subst (λ (rest : List Import). Laying rows rest seen from to n) (pairs-end importRow section i all) laying
 
   next-rest : (i : ℕ) → n ≤ i → getD next i 0 ≡ 0
   next-rest i h =

@@ -1,35 +1,35 @@
 -- Laws for the proof of `toposort_real_module_ids` of src/walk.rt: the walk of a project begins, and ends as the definition's. Assumes nothing.
-use Prim.Native.Nat.{ℕ, _≤_}
+use Prim.Native.Nat.{ℕ, _+_, _<_}
 use native.Mathlib.Omega.{arith}
-use mathlib.Core.Path.{_≡_, ap, subst, _∙_}
-use mathlib.Core.List.{List, flatMap}
-use lib.ListN.{length, take}
-use Rattle.rules.specs.Lists.{any, elem}
-use Rattle.rules.specs.Project.{Project, moduleLimit, importRow, pairRows}
+use mathlib.Core.Path.{_≡_, refl, subst}
+use mathlib.Core.List.{List, _∷_, flatMap}
+use lib.ListN.{length}
+use Rattle.rules.specs.Lists.{any, elem, upFrom}
+use Rattle.rules.specs.Project.{Project, importRow, pairRows}
 use Rattle.rules.specs.Walk.{Stop}
 use Rattle.rules.specs.Modules.{ModuleState, isDone, moduleList, groupsOf, groupsInOrder, moduleStart}
 use Rattle.rules.specs.Calls.{groupBytes, moduleListLimit}
 use Rattle.laws.specs.ModuleWalk.{walked-start}
-use Rattle.lists.specs.Bits.{bit}
 use Rattle.lists.specs.BitLaws.{bit-zero}
+use Rattle.lists.specs.Stacks.{stack}
 use Rattle.chunk.specs.declared.walk.ModuleWalk.{ModuleWalk}
 use Rattle.chunk.specs.declared.walk.Ending.{Ending}
 use Rattle.chunk.specs.Imports.{FitRows, Laid}
 use Rattle.chunk.specs.Walks.{marksOf, Started, Shows, Walking, Ended, has-finished, was-spent, list-was-full, Holds, Groupable}
 
-shows-start : (p : Project) {list : List ℕ} {w : ModuleWalk} (groups : List ℕ) → Started (p .modules) (p .entry) list w → w .end ≤ moduleListLimit
-    → Shows list groups w (moduleStart p)
+-- A list filled with the entry and the modules, and numbers that are 0.
+pub walk-started : {list : List ℕ} (modules entry : ℕ) → modules < moduleListLimit → stack list (modules + 1) ≡ entry ∷ upFrom 0 modules
+    → Started modules entry list (record { end = modules + 1; done = 0; marks = 0; groups = 0; used = 0 })
 unfolding moduleStart moduleList groupsOf groupsInOrder marksOf isDone any elem groupBytes flatMap
-shows-start p {w = w} groups h most =
-    let numbers = h .numbers in
+walk-started modules entry most filled p e f groups =
     record {
-      entries = h .entries;
-      within = most;
-      done = λ j. ap (λ (v : ModuleWalk). bit (v .done) j) numbers ∙ bit-zero j;
-      marks = λ j. ap (λ (v : ModuleWalk). bit (v .marks) j) numbers ∙ bit-zero j;
-      count = ap (λ (v : ModuleWalk). v .groups) numbers;
-      used = ap (λ (v : ModuleWalk). v .used) numbers;
-      bytes = ap (λ (v : ModuleWalk). take (v .used) groups) numbers;
+      entries = rw (e, f) filled;
+      within = omega arith;
+      done = bit-zero;
+      marks = bit-zero;
+      count = refl;
+      used = refl;
+      bytes = refl;
     }
 
 module _ {p : Project} {rows section groups : List ℕ} {count first : ℕ} (h : Groupable p rows section count first groups) where
@@ -44,13 +44,9 @@ module _ {p : Project} {rows section groups : List ℕ} {count first : ℕ} (h :
       } in
       subst FitRows (h .imports) fits
 
-  pub few-modules : count ≤ moduleLimit
-  few-modules = omega (arith, h .modules, h .accepted .modules-most)
-
   pub walk-starts : {to heads next list : List ℕ} {w : ModuleWalk} → Laid (pairRows importRow rows) to heads next → length list ≡ moduleListLimit
       → Started count first list w → Walking p section to heads next list groups w (moduleStart p)
-  walk-starts {to} {heads} {next} {list} {w} l size s =
-      let started : Started (p .modules) (p .entry) list w = rw (h .modules, h .entry) s in
+  walk-starts l size s =
       record {
         accepted = h .accepted;
         circles = h .circles;
@@ -58,7 +54,7 @@ module _ {p : Project} {rows section groups : List ℕ} {count first : ℕ} (h :
         laid = rw (h .imports) l;
         list-size = size;
         groups-size = h .groups-size;
-        shows = shows-start p groups started (omega (arith, s .end, few-modules));
+        shows = s p (h .modules) (h .entry) groups;
         walked = walked-start (h .accepted);
       }
 

@@ -4,10 +4,10 @@ use mathlib.Core.Path.{_≡_}
 use mathlib.Core.Bool.{false, _||_}
 use mathlib.Core.List.{List, _∷_, _++_}
 use lib.ListN.{length, take}
-use Rattle.rules.specs.Lists.{isEmpty, elem, upFrom}
+use Rattle.rules.specs.Lists.{isEmpty, elem}
 use Rattle.rules.specs.Project.{Project, moduleLimit, importLimit, importRow, pairRows, circleLists, badCircles}
 use Rattle.rules.specs.Walk.{Stop, finished, spent, full, run}
-use Rattle.rules.specs.Modules.{ModuleState, moduleState, moduleList, groupsOf, groupsInOrder, isDone, undoneImports, circleOf, outsideImports, visitModule, moduleWalk}
+use Rattle.rules.specs.Modules.{ModuleState, moduleState, moduleList, groupsOf, groupsInOrder, isDone, undoneImports, circleOf, outsideImports, visitModule, moduleStart, moduleWalk}
 use Rattle.rules.specs.Calls.{groupBytes, moduleListLimit}
 use Rattle.lists.specs.Bits.{bit}
 use Rattle.lists.specs.Stacks.{stack, placedBelow}
@@ -24,12 +24,6 @@ use Rattle.chunk.specs.declared.walk.Ending.the-variants.{Finished, Spen
 
 unfoldable pub marksOf : ModuleState → List ℕ
 marksOf (moduleState list marks groups) = marks
-
--- The walk before the first visit: "The list starts as the entry, then 0 to M−1."
-pub record Started (modules entry : ℕ) (list : List ℕ) (w : ModuleWalk) : Type 0 where
-  pub entries : stack list (w .end) ≡ entry ∷ upFrom 0 modules
-  pub end : w .end ≡ modules + 1
-  pub numbers : w ≡ record { end = modules + 1; done = 0; marks = 0; groups = 0; used = 0 }
 
 -- A group written behind those before it: a count byte and the members.
 abbrev pub Written : ℕ → List ℕ → List ℕ → List ℕ → Type 0
@@ -68,6 +62,10 @@ pub record Shows (list groups : List ℕ) (w : ModuleWalk) (s : ModuleState) : T
   pub count : w .groups ≡ length (groupsOf s)
   pub used : w .used ≡ length (groupBytes (groupsInOrder s))
   pub bytes : take (w .used) groups ≡ groupBytes (groupsInOrder s)
+
+-- The walk before the first visit: whatever stands where the groups will, it shows the paper's start of every project with these modules and this entry.
+abbrev pub Started : ℕ → ℕ → List ℕ → ModuleWalk → Type 0
+Started modules entry list w = (p : Project) → p .modules ≡ modules → p .entry ≡ entry → (groups : List ℕ) → Shows list groups w (moduleStart p)
 
 -- What a visit relies on: the project's imports and circles, arrays of the right size, and a state that the walk of the project can be in.
 pub record Walking (p : Project) (section to heads next list groups : List ℕ) (w : ModuleWalk) (s : ModuleState) : Type 0 where

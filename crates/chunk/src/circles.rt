@@ -8,9 +8,11 @@ ghost use lib.ListN.{length, drop};
 ghost use Rattle.rules.specs.Lists.{any, elem};
 ghost use Rattle.rules.specs.Project.{moduleLimit, circleLists, badCircles};
 ghost use Rattle.laws.specs.Counting.{Below};
-ghost use Rattle.chunk.specs.Circles.{nothing, Gathers, Appended, Listed, ModuleReady, MembersReady, FollowsModule, FollowsMembers, CircleReady, CircleGathered};
+ghost use Rattle.chunk.specs.Circles.{nothing, nothingFollowed, Gathers, Appended, Listed, ModuleReady, MembersReady, FollowsModule, FollowsMembers, CircleReady, CircleGathered};
 use lists::bits;
+use project::Layout;
 use project::ModuleId;
+use project::sections::list_at;
 
 // The modules gathered in the first bytes of an array: as a set, and how many.
 pub struct Gathered {
@@ -20,7 +22,7 @@ pub struct Gathered {
 
 impl Gathered {
     // The bytes that an array has to have: one for each module that there can be.
-    pub const ROOM: usize = 64;
+    pub const ROOM: usize = Layout::MODULE_ROOM;
 
     fn new() -> Self
         ensures { λ r. ⌜ r ≡ nothing ⌝ }
@@ -35,13 +37,24 @@ struct Following {
     noted: u64,
 }
 
+impl Following {
+    fn new() -> Self
+        ensures { λ r. ⌜ r ≡ nothingFollowed ⌝ }
+    {
+        Self {
+            gathered: Gathered::new(),
+            noted: 0,
+        }
+    }
+}
+
 // Whether a list holds m.
-fn holds(list: &[u8], m: u8) -> bool
-    ensures { λ r. ⌜ r ≡ elem m (now (list .entry)) ⌝ }
+fn holds(list: &[u8], m: ModuleId) -> bool
+    ensures { λ r. ⌜ r ≡ elem (m .0) (now (list .entry)) ⌝ }
 {
     let mut i = 0;
     while i < list.len() {
-        if list[i] == m {
+        if list[i] == m.0 {
             return true;
         }
         i += 1;
@@ -50,19 +63,19 @@ fn holds(list: &[u8], m: u8) -> bool
 }
 
 // Appends a module to those gathered, unless it is among them.
-pub fn append_one(array: &mut [u8], g: Gathered, m: u8) -> Gathered
+pub fn append_one(array: &mut [u8], g: Gathered, m: ModuleId) -> Gathered
     requires { ⌜ Gathers (now array) g ⌝ }
-    requires { ⌜ m < moduleLimit ⌝ }
-    ensures { λ r. ⌜ Appended (now (array .entry)) (now (array .exit)) g r (m ∷ []) ⌝ }
+    requires { ⌜ m .0 < moduleLimit ⌝ }
+    ensures { λ r. ⌜ Appended (now (array .entry)) (now (array .exit)) g r (m .0 ∷ []) ⌝ }
 {
     let have = g.have;
-    if bits::has(have, m) {
+    if bits::has(have, m.0) {
         return g;
     }
     let count = g.count;
-    array[count] = m;
+    array[count] = m.0;
     Gathered {
-        have: bits::with(have, m),
+        have: bits::with(have, m.0),
         count: count + 1,
     }
 }
@@ -76,60 +89,57 @@ pub fn append_new(array: &mut [u8], g: Gathered, list: &[u8]) -> Gathered
     let mut r = g;
     let mut i = 0;
     while i < list.len() {
-        r = append_one(array, r, list[i]);
+        r = append_one(array, r, ModuleId(list[i]));
         i += 1;
     }
     r
 }
 
 // Gathers the members of every list of the section that holds m.
-fn listed_with(section: &[u8], m: u8, array: &mut [u8]) -> Gathered
+fn listed_with(section: &[u8], m: ModuleId, array: &mut [u8]) -> Gathered
     requires { ⌜ badCircles moduleLimit 0 (now section) ≡ false ⌝ }
     requires { ⌜ moduleLimit ≤ length (now array) ⌝ }
-    ensures { λ r. ⌜ Listed (now (section .entry)) m (now (array .entry)) (now (array .exit)) r ⌝ }
+    ensures { λ r. ⌜ Listed (now (section .entry)) (m .0) (now (array .entry)) (now (array .exit)) r ⌝ }
 {
     let mut r = Gathered::new();
     let mut at = 0;
     while at < section.len() {
-        let start = at + 1;
-        let end = start + section[at] as usize;
-        let list = &section[start..end];
+        let list = list_at(section, at);
         if holds(list, m) {
             r = append_new(array, r, list);
         }
-        at = end;
+        at += 1 + list.len();
     }
     r
 }
 
 // Whether a list of the section holds m.
-fn is_listed(section: &[u8], m: u8) -> bool
+fn is_listed(section: &[u8], m: ModuleId) -> bool
     requires { ⌜ badCircles moduleLimit 0 (now section) ≡ false ⌝ }
-    ensures { λ r. ⌜ r ≡ any (elem m) (circleLists (now (section .entry))) ⌝ }
+    ensures { λ r. ⌜ r ≡ any (elem (m .0)) (circleLists (now (section .entry))) ⌝ }
 {
     let mut at = 0;
     while at < section.len() {
-        let start = at + 1;
-        let end = start + section[at] as usize;
-        if holds(&section[start..end], m) {
+        let list = list_at(section, at);
+        if holds(list, m) {
             return true;
         }
-        at = end;
+        at += 1 + list.len();
     }
     false
 }
 
 // Follows a module through its lists.
-fn follow_module(section: &[u8], m: u8, array: &mut [u8], s: Following) -> Following
-    requires { ⌜ ModuleReady (now section) m (now array) s ⌝ }
-    ensures { λ r. ⌜ FollowsModule (now (section .entry)) m (now (array .entry)) (now (array .exit)) s r ⌝ }
+fn follow_module(section: &[u8], m: ModuleId, array: &mut [u8], s: Following) -> Following
+    requires { ⌜ ModuleReady (now section) (m .0) (now array) s ⌝ }
+    ensures { λ r. ⌜ FollowsModule (now (section .entry)) (m .0) (now (array .entry)) (now (array .exit)) s r ⌝ }
 {
     let mut listed = [0u8; Gathered::ROOM];
     let found = listed_with(section, m, &mut listed);
     let n = found.count;
     let members = &listed[..n];
     let gathered = append_new(array, s.gathered, members);
-    let noted = bits::with(s.noted, m);
+    let noted = bits::with(s.noted, m.0);
     follow_members(section, members, array, Following { gathered, noted })
 }
 
@@ -141,9 +151,9 @@ fn follow_members(section: &[u8], members: &[u8], array: &mut [u8], s: Following
     let mut r = s;
     let mut i = 0;
     while i < members.len() {
-        let m = members[i];
+        let m = ModuleId(members[i]);
         let noted = r.noted;
-        if !bits::has(noted, m) {
+        if !bits::has(noted, m.0) {
             r = follow_module(section, m, array, r);
         }
         i += 1;
@@ -170,15 +180,11 @@ pub fn circle_of(section: &[u8], m: ModuleId, circle: &mut [u8]) -> Gathered
     requires { ⌜ CircleReady (now section) (m .0) (now circle) ⌝ }
     ensures { λ r. ⌜ CircleGathered (now (section .entry)) (m .0) (now (circle .entry)) (now (circle .exit)) r ⌝ }
 {
-    if !is_listed(section, m.0) {
+    if !is_listed(section, m) {
         return Gathered::new();
     }
     let mut array = [0u8; Gathered::ROOM];
-    let start = Following {
-        gathered: Gathered::new(),
-        noted: 0,
-    };
-    let s = follow_module(section, m.0, &mut array, start);
+    let s = follow_module(section, m, &mut array, Following::new());
     let n = s.gathered.count;
     copy_reversed(&array[..n], circle);
     s.gathered

@@ -3,11 +3,12 @@ use super::circles;
 use super::circles::Gathered;
 use super::imports;
 use lists::bits;
+use project::Layout;
 use project::ModuleId;
 ghost use Prim.Native.Nat.{_+_, _*_, _-_, _≤_, _<_};
 ghost use mathlib.Core.Path.{_≡_};
 ghost use lib.ListN.{length};
-ghost use Rattle.rules.specs.Project.{Project};
+ghost use Rattle.rules.specs.Project.{Project, moduleLimit};
 ghost use Rattle.rules.specs.Walk.{run as runs};
 ghost use Rattle.rules.specs.Modules.{ModuleState, moduleWalk, runModules};
 ghost use Rattle.rules.specs.Calls.{moduleListLimit};
@@ -41,6 +42,9 @@ pub enum Ending {
 impl ModuleWalk {
     // The most entries that a visit may leave.
     pub const LIST: usize = 1024;
+
+    // The bytes that the groups may take: there are at most as many as modules, each with a count and at most all modules.
+    pub const GROUPS: usize = Layout::MODULE_ROOM * (Layout::MODULE_ROOM + 1);
 
     // The state before the first visit: the list is the entry, then 0 to modules - 1. What the array holds beyond is left free.
     pub fn new(list: &mut [u8], modules: u8, entry: ModuleId) -> Self
@@ -79,13 +83,14 @@ fn write_group(groups: &mut [u8], used: usize, members: &[u8])
 
 // The state with one more group, when its front module has been taken off.
 fn grouped(w: ModuleWalk, groups: &mut [u8], members: &[u8], set: u64) -> ModuleWalk
-    requires { ⌜ (0 < w .end) × (w .groups < 64) × (w .used + 1 + length (now members) ≤ length (now groups)) × (length (now members) < 256) ⌝ }
+    requires { ⌜ (0 < w .end) × (w .groups < moduleLimit) × (w .used + 1 + length (now members) ≤ length (now groups)) × (length (now members) < 256) ⌝ }
     ensures { λ r. ⌜ Grouped w (now (members .entry)) set (now (groups .entry)) (now (groups .exit)) r ⌝ }
 {
+    let end = w.end - 1;
     let used = w.used;
     write_group(groups, used, members);
     ModuleWalk {
-        end: w.end - 1,
+        end,
         done: bits::join(w.done, set),
         marks: 0,
         groups: w.groups + 1,
@@ -146,21 +151,21 @@ fn append_open(
     to: &[u16],
     heads: &[u16],
     next: &[u16],
-    m: u8,
+    m: ModuleId,
     done: u64,
     set: u64,
     circle: &mut [u8],
     g: Gathered,
 ) -> Gathered
     requires { ⌜ Chains (now to) (now heads) (now next) ⌝ }
-    requires { ⌜ (m < 64) × Gathers (now circle) g ⌝ }
+    requires { ⌜ (m .0 < moduleLimit) × Gathers (now circle) g ⌝ }
     ensures { λ r.
-        ⌜ Appended (now (circle .entry)) (now (circle .exit)) g r (openOf (now (to .entry)) (now (heads .entry)) (now (next .entry)) done set m) ⌝ }
+        ⌜ Appended (now (circle .entry)) (now (circle .exit)) g r (openOf (now (to .entry)) (now (heads .entry)) (now (next .entry)) done set (m .0)) ⌝ }
 {
     let mut r = g;
-    let mut e = heads[m as usize] as usize;
+    let mut e = heads[m.0 as usize] as usize;
     while e != 0 {
-        let d = to[e - 1] as u8;
+        let d = ModuleId(to[e - 1] as u8);
         if imports::is_open(d, done, set) {
             r = circles::append_one(circle, r, d);
         }
@@ -189,7 +194,8 @@ fn append_all(
     let mut r = g;
     let mut i = 0;
     while i < n {
-        r = append_open(to, heads, next, circle[i], done, set, circle, r);
+        let m = ModuleId(circle[i]);
+        r = append_open(to, heads, next, m, done, set, circle, r);
         i += 1;
     }
     r
@@ -270,7 +276,7 @@ fn visit_importing(
         → Importing b (now (section .entry)) (now (to .entry)) (now (heads .entry)) (now (next .entry)) (now (list .entry)) (now (groups .entry)) w (m .0) «open»
         → Came (b .project) (stateAt (m .0) b) (now (list .exit)) (now (groups .exit)) r) ⌝ }
 {
-    let mut circle = [0u8; 64];
+    let mut circle = [0u8; Gathered::ROOM];
     let g = circles::circle_of(section, m, &mut circle);
     if g.count == 0 {
         let alone = [m.0];
@@ -323,12 +329,12 @@ pub fn visit(
         → Came p s (now (list .exit)) (now (groups .exit)) r) ⌝ }
 {
     let top = w.end - 1;
-    let m = list[top];
+    let m = ModuleId(list[top]);
     let done = w.done;
-    if bits::has(done, m) {
+    if bits::has(done, m.0) {
         return Outcome::WentOn(passed(w));
     }
-    visit_undone(section, to, heads, next, list, groups, w, ModuleId(m))
+    visit_undone(section, to, heads, next, list, groups, w, m)
 }
 
 // Visits until the list is empty, the allowance is spent or the list is full, tested in this order; a visit that fills the list counts.
@@ -384,11 +390,11 @@ pub fn toposort_real_module_ids(
     ensures { λ r. ⌜ ((p : Project) → Groupable p (now (imports .entry)) (now (section .entry)) modules (entry .0) (now (groups .entry))
         → Ended (runModules p moduleListLimit allowance) (Holds (now (groups .exit))) r) ⌝ }
 {
-    let mut to = [0u16; 512];
-    let mut heads = [0u16; 64];
-    let mut next = [0u16; 512];
+    let mut to = [0u16; Layout::IMPORT_ROOM];
+    let mut heads = [0u16; Layout::MODULE_ROOM];
+    let mut next = [0u16; Layout::IMPORT_ROOM];
     imports::lay_out(imports, &mut to, &mut heads, &mut next);
-    let mut list = [0u8; 1024];
+    let mut list = [0u8; ModuleWalk::LIST];
     let start = ModuleWalk::new(&mut list, modules, entry);
     run(
         section,

@@ -1,5 +1,5 @@
 -- Laws of the kept rows along a module's chain. Assumes nothing.
-use Prim.Native.Nat.{ℕ, zero, suc, _+_, _-_, _/_, _≤_, _<_}
+use Prim.Native.Nat.{ℕ, zero, suc, _+_, _-_, _≤_, _<_}
 use native.Mathlib.Omega.{arith}
 use native.Mathlib.Numerals.{add-one, sub-one}
 use mathlib.Core.Path.{_≡_, refl, sym, ap, _∙_}
@@ -8,7 +8,7 @@ use mathlib.Core.List.{List, [], _∷_, _++_, flatMap}
 use lib.Dec.{eqb}
 use lib.ListN.{length, getD, drop, drop-of-length-le}
 use lib.Seq.{drop-cons}
-use Rattle.rules.specs.Lists.{consIf, keep, positionsFrom}
+use Rattle.rules.specs.Lists.{consIf, keep}
 use Rattle.rules.specs.Project.{Item, Project}
 use Rattle.rules.specs.Items.{isKept, noItem, itemAt, kindAt, keptRowsOf, givenRows}
 use Rattle.lists.specs.Pairs.{chain}

@@ -1,6 +1,8 @@
 // The kept rows of modules in row order.
 use super::is_kept;
 use project::kinds::kind_of;
+use project::sections::ItemRow;
+use project::sections::item_at;
 ghost use Prim.Native.Nat.{ℕ, _+_, _≤_};
 ghost use lib.ListN.{length};
 ghost use Rattle.rules.specs.Project.{Project};
@@ -19,7 +21,7 @@ fn write_kept(items: &[u8], next: &[u16], head: u16, out: &mut [u8], start: usiz
     let mut e = head as usize;
     while e != 0 {
         let row = e - 1;
-        if is_kept(kind_of(items[2 * row + 1])) {
+        if is_kept(kind_of(item_at(items, ItemRow::BYTES * row).kind)) {
             out[n] = row as u8;
             n += 1;
         }

@@ -2,14 +2,19 @@
 pub mod kept;
 
 use lists::bits;
+use project::ModuleId;
 use project::kinds::Kind;
 use project::kinds::kind_of;
+use project::sections::ImportRow;
+use project::sections::ItemRow;
+use project::sections::import_at;
+use project::sections::item_at;
 ghost use Prim.Native.Nat.{ℕ, _≤_, _<_};
 ghost use mathlib.Core.Path.{_≡_};
 ghost use mathlib.Core.Bool.{not, _&&_, _||_};
 ghost use lib.ListN.{length};
 ghost use Rattle.rules.specs.Lists.{any, elem};
-ghost use Rattle.rules.specs.Project.{Project, itemRow, importRow, pairRows};
+ghost use Rattle.rules.specs.Project.{Project, moduleLimit, itemRow, importRow, pairRows};
 ghost use Rattle.rules.specs.Items.{keepsRowOrder};
 ghost use Rattle.project.specs.Kinds.{keptBy};
 ghost use Rattle.lists.specs.Bits.{bit};
@@ -21,10 +26,11 @@ pub fn importers(imports: &[u8]) -> u64
     ensures { λ r. ⌜ ((m : ℕ) → bit r m ≡ any (isImporter m) (pairRows importRow (now (imports .entry)))) ⌝ }
 {
     let mut set = 0;
-    let mut i = 0;
-    while i + 1 < imports.len() {
-        set = bits::with(set, imports[i]);
-        i += 2;
+    let mut at = 0;
+    while at + 1 < imports.len() {
+        let row = import_at(imports, at);
+        set = bits::with(set, row.importer.0);
+        at += ImportRow::BYTES;
     }
     set
 }
@@ -49,22 +55,23 @@ pub fn givers(items: &[u8]) -> u64
     ensures { λ r. ⌜ ((m : ℕ) → bit r m ≡ any (isGiver m) (pairRows itemRow (now (items .entry)))) ⌝ }
 {
     let mut set = 0;
-    let mut i = 0;
-    while i + 1 < items.len() {
-        if is_kept(kind_of(items[i + 1])) {
-            set = bits::with(set, items[i]);
+    let mut at = 0;
+    while at + 1 < items.len() {
+        let row = item_at(items, at);
+        if is_kept(kind_of(row.kind)) {
+            set = bits::with(set, row.in_module.0);
         }
-        i += 2;
+        at += ItemRow::BYTES;
     }
     set
 }
 
 // Whether a module that is not used gives items.
-fn gives(used: u64, givers: u64, m: u8) -> bool
-    requires { ⌜ m < 64 ⌝ }
-    ensures { λ r. ⌜ r ≡ (not (bit used m) && bit givers m) ⌝ }
+fn gives(used: u64, givers: u64, m: ModuleId) -> bool
+    requires { ⌜ m .0 < moduleLimit ⌝ }
+    ensures { λ r. ⌜ r ≡ (not (bit used (m .0)) && bit givers (m .0)) ⌝ }
 {
-    !bits::has(used, m) && bits::has(givers, m)
+    !bits::has(used, m.0) && bits::has(givers, m.0)
 }
 
 // The members of a group that are not used and give items, last first, written to `modules`; how many.
@@ -77,9 +84,9 @@ pub fn giving(members: &[u8], used: u64, givers: u64, modules: &mut [u8]) -> usi
     let mut i = members.len();
     while 0 < i {
         i -= 1;
-        let m = members[i];
+        let m = ModuleId(members[i]);
         if gives(used, givers, m) {
-            modules[n] = m;
+            modules[n] = m.0;
             n += 1;
         }
     }

@@ -103,17 +103,7 @@ bit-not (suc k) a (suc j) h g =
     let f : a / 2 < 2 ^ k = omega (arith, pow-succ' 2 k) in
     ap (λ (x : ℕ). bit x j) e ∙ bit-not k (a / 2) j f (omega arith)
 
--- A word that is not 0 holds something.
-pub bit-some : (k w : ℕ) → w < 2 ^ k → (w ≡ 0 → ⊥) → (j : ℕ) × (j < k) × (bit w j ≡ true)
-unfolding bit
-bit-some zero w h n = absurd (n (omega arith))
-bit-some (suc k) w h n = go (last-digit w) (λ m. bit-some k (w / 2) (omega (arith, pow-succ' 2 k)) m)
-  where
-    go : Digit (w % 2) → ((w / 2 ≡ 0 → ⊥) → (j : ℕ) × (j < k) × (bit (w / 2) j ≡ true)) → (j : ℕ) × (j < suc k) × (bit w j ≡ true)
-    go (one-digit e) f = (0, omega arith, rw e refl)
-    go (zero-digit e) f = let r = f (λ z. n (omega arith)) in (suc (r .0), omega (arith, r .1), r .2)
-
--- One that is 0 holds nothing.
+-- A word that is 0 holds nothing.
 pub bit-none : (w j : ℕ) → w ≡ 0 → bit w j ≡ false
 bit-none w j e = ap (λ (x : ℕ). bit x j) e ∙ bit-zero j
 

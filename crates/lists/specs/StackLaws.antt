@@ -6,7 +6,7 @@ use native.Mathlib.Numerals.{add-one}
 use mathlib.Core.Path.{_≡_, refl, sym, ap, subst, _∙_}
 use mathlib.Core.List.{List, [], _∷_, _++_, reverse, reverse-cons, reverse-append, reverse-reverse, append-assoc}
 use lib.ListN.{length, getD, take, drop, set, length-append, length-take, length-set, length-reverse, take-append-drop}
-use lib.Seq.{take-suc, take-set-le, take-at, drop-at, drop-cons, drop-set-lt, getD-set-same, getD-set-other, lt-length-set, append-snoc}
+use lib.Seq.{take-suc, take-set-le, take-at, drop-cons, drop-set-lt, getD-set-same, getD-set-other, lt-length-set, append-snoc}
 use Rattle.lists.specs.Stacks.{stack, placedBelow, Placeable, Placed}
 
 pub stack-length : (a : List ℕ) (n : ℕ) → length (stack a n) ≡ n
@@ -70,9 +70,6 @@ module _ (top : ℕ) (entries a : List ℕ) (room : length entries ≤ top) (wit
 
   split-length : length (take (top - length entries) a ++ reverse entries) ≡ top
   split-length = simp (length-append, length-take, length-reverse) (omega arith)
-
-  pub placed-rest : drop top (placedBelow top entries a) ≡ drop top a
-  placed-rest = rw split (drop-at (take (top - length entries) a ++ reverse entries) (drop top a) top split-length)
 
   pub placed-stack : stack (placedBelow top entries a) top ≡ entries ++ stack a (top - length entries)
   placed-stack =

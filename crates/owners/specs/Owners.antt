@@ -83,7 +83,7 @@ ownerAt items owners row = getD owners (getD items (2 * row) 0) 0
 
 -- The bytes that it is read from are there.
 pub record RowRoom (items owners : List ℕ) (row : ℕ) : Type 0 where
-  pub item : 2 * row < length items
+  pub item : 2 * row + 2 ≤ length items
   pub module-below : getD items (2 * row) 0 < length owners
 
 -- what two rows are both owned by, and 0 where that differs

@@ -1,5 +1,10 @@
 // The group that the items of each module belong to, and the needs of a project chained by the group that both their items belong to, so that a group
 // finds its needs without a scan of all.
+use project::ItemId;
+use project::sections::ItemRow;
+use project::sections::NeedRow;
+use project::sections::item_at;
+use project::sections::need_at;
 ghost use Prim.Native.Nat.{ℕ, _<_};
 ghost use mathlib.Core.Path.{_≡_};
 ghost use mathlib.Core.List.{List};
@@ -45,12 +50,12 @@ pub fn note_owners(bytes: &[u8], count: usize, owners: &mut [u8])
 }
 
 // The owner of an item's row.
-fn owner_of(items: &[u8], owners: &[u8], row: u8) -> u8
-    requires { ⌜ RowRoom (now items) (now owners) row ⌝ }
-    ensures { λ r. ⌜ r ≡ ownerAt (now (items .entry)) (now (owners .entry)) row ⌝ }
+fn owner_of(items: &[u8], owners: &[u8], item: ItemId) -> u8
+    requires { ⌜ RowRoom (now items) (now owners) (item .0) ⌝ }
+    ensures { λ r. ⌜ r ≡ ownerAt (now (items .entry)) (now (owners .entry)) (item .0) ⌝ }
 {
-    let m = items[2 * (row as usize)] as usize;
-    owners[m]
+    let row = item_at(items, ItemRow::BYTES * (item.0 as usize));
+    owners[row.in_module.0 as usize]
 }
 
 // What two rows are both owned by, or 0.
@@ -83,11 +88,12 @@ pub fn chain_needs(items: &[u8], needs: &[u8], owners: &[u8], heads: &mut [u16],
         → NeedsChainable p groups (now (items .entry)) (now (needs .entry)) (now (owners .entry)) (now (heads .entry)) (now (next .entry))
         → NeedsChained p groups (now (needs .entry)) (now (next .exit)) (now (heads .exit))) ⌝ }
 {
-    let mut i = needs.len() / 3;
+    let mut i = needs.len() / NeedRow::BYTES;
     while 0 < i {
         i -= 1;
-        let a = owner_of(items, owners, needs[3 * i]);
-        let b = owner_of(items, owners, needs[3 * i + 1]);
+        let row = need_at(needs, NeedRow::BYTES * i);
+        let a = owner_of(items, owners, row.dependant);
+        let b = owner_of(items, owners, row.dependency);
         link_row(heads, next, i, both_own(a, b) as usize);
     }
 }

@@ -17,10 +17,9 @@ use Rattle.laws.specs.Counting.{below-length, keep-all}
 use Rattle.laws.specs.Accepted.{Accepted}
 use Rattle.laws.specs.Splits.{runs, size, Giving, giving-below, length-numbering, length-kinds, kindOf-row, uninjected-∈, injected-∈, wellFormed}
 use Rattle.split.specs.declared.Split.{Split}
-use Rattle.split.specs.Splits.{ModuleChains, SplitRoom, Splits}
+use Rattle.split.specs.Splits.{SplitRoom, Splits}
 use Rattle.split.specs.SplitLaws.{numbering-parts}
 use Rattle.split.specs.FirstLists.{Listable}
-use Rattle.split.specs.RowChains.{RowsChained}
 
 -- Arrays of the limits' sizes have room for the split.
 pub split-room : {p : Project} {modules rows kinds low high starts : List ℕ} → Accepted p → Giving p modules → length rows ≡ itemLimit
@@ -110,8 +109,3 @@ listable {p} {modules} {s = s} {part = part} a g d e room =
       most = omega (arith, d .count-is, length-numbering p (g .once), a .items-most);
       room = room;
     }
-
--- The rows of an accepted project, chained, have the chains of modules that give items.
-pub giving-chains : {p : Project} {modules items module-of heads next module-of′ heads′ next′ : List ℕ} → Accepted p → Giving p modules
-    → RowsChained p items module-of heads next module-of′ heads′ next′ → ModuleChains p modules items next′ heads′
-giving-chains {modules = modules} a g c = c .chains modules (giving-below (λ i m. a .item-rows i m .module-below) g)

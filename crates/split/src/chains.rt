@@ -1,5 +1,7 @@
 // The item rows chained by their modules, so that the rows of a module are found without a scan of all.
 use lists::pairs;
+use project::sections::ItemRow;
+use project::sections::item_at;
 ghost use Prim.Native.Nat.{_/_, _≤_};
 ghost use mathlib.Core.Path.{_≡_};
 ghost use lib.ListN.{length};
@@ -12,10 +14,11 @@ fn write_modules(items: &[u8], module_of: &mut [u16])
     requires { ⌜ length (now items) / 2 ≤ length (now module_of) ⌝ }
     ensures { λ _. ⌜ now (module_of .exit) ≡ sets (now (module_of .entry)) 0 (modulesIn (now (items .entry))) ⌝ }
 {
-    let n = items.len() / 2;
+    let n = items.len() / ItemRow::BYTES;
     let mut i = 0;
     while i < n {
-        module_of[i] = items[2 * i] as u16;
+        let row = item_at(items, ItemRow::BYTES * i);
+        module_of[i] = row.in_module.0 as u16;
         i += 1;
     }
 }
@@ -29,5 +32,5 @@ pub fn chain_rows(items: &[u8], module_of: &mut [u16], heads: &mut [u16], next: 
         (now (heads .exit)) (now (next .exit))) ⌝ }
 {
     write_modules(items, module_of);
-    pairs::link(module_of, items.len() / 2, heads, next);
+    pairs::link(module_of, items.len() / ItemRow::BYTES, heads, next);
 }

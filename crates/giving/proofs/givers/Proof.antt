@@ -1,12 +1,13 @@
--- `giving::givers` meets its contract. The loop's invariant: the set and the rows from i on show what all rows do. The measure is what is
+-- `giving::givers` meets its contract. The loop's invariant: the set and the rows from a position on show what all rows do. The measure is what is
 -- left of the section. Assumes nothing.
-use Prim.Native.Nat.{ℕ, _+_, _-_, _≤_}
+use Prim.Native.Nat.{ℕ, _-_, _≤_}
 use borrow.Author.Needs.{needs}
 use native.Mathlib.Omega.{arith}
-use mathlib.Core.Path.{sym, ap, _∙_}
+use mathlib.Core.Path.{_≡_, sym, ap, _∙_}
+use mathlib.Core.Bool.{_&&_, _||_}
 use mathlib.Core.Logic.{⊎-elim}
 use lib.Dec.{eqb}
-use lib.ListN.{length, getD, drop}
+use lib.ListN.{length, drop}
 use Rattle.rules.specs.Project.{Item, itemRow, pairRows}
 use Rattle.project.specs.RowLaws.{pairs-at, pairs-end}
 use Rattle.rules.specs.Items.{isKept}
@@ -17,12 +18,12 @@ use Rattle.giving.proofs.givers.Statement.{statement}
 use Rattle.giving.proofs.givers.Tie as tie
 
 abbrev Inv-loop : tie.InvT-loop
-Inv-loop items set₀ i₀ set i =
-    (i ≤ length items)
-    × Gathering (λ (r : Item). r .inModule) isGiver (pairRows itemRow items) (pairRows itemRow (drop i items)) set
+Inv-loop items set₀ at₀ set at =
+    (at ≤ length items)
+    × Gathering (λ (r : Item). r .inModule) isGiver (pairRows itemRow items) (pairRows itemRow (drop at items)) set
 
 abbrev μ-loop : tie.MeasureT-loop
-μ-loop items set₀ i₀ set i = length items - i
+μ-loop items set₀ at₀ set at = length items - at
 
 loop-holds : tie.Need-loop-holds Inv-loop μ-loop
 loop-holds c = (
@@ -33,11 +34,8 @@ loop-holds c = (
 add-loop : tie.Need-add-loop Inv-loop μ-loop
 add-loop c = search needs
 
-add-kind-of : tie.Need-add-kind-of Inv-loop μ-loop
-add-kind-of c = search needs
-
-shared-slice-read-kind-of : tie.Need-shared-slice-read-kind-of Inv-loop μ-loop
-shared-slice-read-kind-of c = omega arith
+item-at-requires : tie.Need-item-at-requires Inv-loop μ-loop
+item-at-requires c κs = omega arith
 
 kind-of-requires : tie.Need-kind-of-requires Inv-loop μ-loop
 kind-of-requires c κs = search needs
@@ -45,16 +43,14 @@ kind-of-requires c κs = search needs
 is-kept-requires : tie.Need-is-kept-requires Inv-loop μ-loop
 is-kept-requires c κs = search needs
 
-shared-slice-read-with : tie.Need-shared-slice-read-with Inv-loop μ-loop
-shared-slice-read-with c = omega arith
-
 with-requires : tie.Need-with-requires Inv-loop μ-loop
 with-requires c κs =
-    let head = c .before .before .before .before .before .before in
-    gathering-below _ _ (head .loop .inv .1) (pairs-at itemRow (head .before .before .args .items .now) (head .loop .i) (omega arith))
+    let head = c .before .before .before .before .before in
+    rw (c .before .before .before .item-at .ensures)
+    (gathering-below _ _ (head .loop .inv .1) (pairs-at itemRow (head .before .before .args .items .now) (head .loop .at) (omega arith)))
 
-add-i : tie.Need-add-i Inv-loop μ-loop
-add-i c = search needs
+add-at : tie.Need-add-at Inv-loop μ-loop
+add-at c = search needs
 
 loop-less : tie.Need-loop-less Inv-loop μ-loop
 loop-less c = omega arith
@@ -62,22 +58,21 @@ loop-less c = omega arith
 loop-again : tie.Need-loop-again Inv-loop μ-loop
 loop-again c =
     let head = c .before .before .before .before .before in
-    let bytes = head .before .before .args .items .now in
-    let first = pairs-at itemRow (head .before .before .args .items .now) (head .loop .i) (omega arith) in
+    let row = c .before .before .before .item-at in
+    let first = pairs-at itemRow (head .before .before .args .items .now) (head .loop .at) (omega arith) in
     let kept = c .before .before .kind-of .ensures .kept in
-    let told = c .before .is-kept .ensures in (
-      omega arith,
-      gathering-next _ _ (head .loop .inv .1) first _
-          (λ m.
-          ⊎-elim
-          (λ w. ap (λ (s : ℕ). bit s m) (w .3) ∙ w .2 .ensures m ∙ gathered (eqb m (getD bytes (head .loop .i) 0)) (isKept (getD bytes (head .loop .i + 1) 0)) (bit (head .loop .set) m) (kept ∙ sym told ∙ w .0 .taken))
-          (λ w. ap (λ (s : ℕ). bit s m) (w .1) ∙ not-gathered (eqb m (getD bytes (head .loop .i) 0)) (isKept (getD bytes (head .loop .i + 1) 0)) (bit (head .loop .set) m) (kept ∙ sym told ∙ w .0 .left))
-          (c .if1 .came)),
-    )
+    let told = c .before .is-kept .ensures in
+    let now : (m : ℕ) → bit (c .if1 .set) m ≡ ((eqb m (row .result .«in_module» .0) && isKept (row .result .kind)) || bit (head .loop .set) m) =
+    λ m.
+    ⊎-elim
+    (λ w. ap (λ (s : ℕ). bit s m) (w .2) ∙ w .1 .ensures m ∙ gathered (eqb m (row .result .«in_module» .0)) (isKept (row .result .kind)) (bit (head .loop .set) m) (kept ∙ sym told ∙ w .0 .taken))
+    (λ w. ap (λ (s : ℕ). bit s m) (w .1) ∙ not-gathered (eqb m (row .result .«in_module» .0)) (isKept (row .result .kind)) (bit (head .loop .set) m) (kept ∙ sym told ∙ w .0 .left))
+    (c .if1 .came) in
+    (omega arith, gathering-next _ _ (head .loop .inv .1) first _ (rw (row .ensures) at now))
 
 returns : tie.Need-returns Inv-loop μ-loop
 returns c =
-    gathering-end _ _ (c .before .loop .inv .1) (pairs-end itemRow (c .before .before .before .args .items .now) (c .before .loop .i) (omega arith))
+    gathering-end _ _ (c .before .loop .inv .1) (pairs-end itemRow (c .before .before .before .args .items .now) (c .before .loop .at) (omega arith))
 
 pub givers-spec : {M : Type 1} → statement M
 givers-spec =
@@ -87,13 +82,11 @@ givers-spec =
     μ-loop
     loop-holds
     add-loop
-    add-kind-of
-    shared-slice-read-kind-of
+    item-at-requires
     kind-of-requires
     is-kept-requires
-    shared-slice-read-with
     with-requires
-    add-i
+    add-at
     loop-less
     loop-again
     returns)

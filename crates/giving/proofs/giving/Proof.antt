@@ -1,9 +1,8 @@
 -- `giving::giving` meets its contract. The loop's invariant: with the members below i that give stored, the last first, the array is as it is to
 -- be. The measure is i. Assumes nothing.
 use Prim.Native.Nat.{ℕ, _-_, _≤_}
-use borrow.Author.Needs.{needs}
 use native.Mathlib.Omega.{arith}
-use mathlib.Core.Path.{_≡_, refl, sym, _∙_}
+use mathlib.Core.Path.{sym, _∙_}
 use mathlib.Core.Bool.{Bool, not, _&&_}
 use lib.ListN.{length}
 use Rattle.lists.specs.Bits.{bit}
@@ -31,8 +30,8 @@ loop-holds c =
 sub-i : tie.Need-sub-i Inv-loop μ-loop
 sub-i c = omega arith
 
-shared-slice-read-m : tie.Need-shared-slice-read-m Inv-loop μ-loop
-shared-slice-read-m c = omega arith
+shared-slice-read-t10 : tie.Need-shared-slice-read-t10 Inv-loop μ-loop
+shared-slice-read-t10 c = omega arith
 
 gives-requires : tie.Need-gives-requires Inv-loop μ-loop
 gives-requires c κs = member-below (c .before .before .before .before .before .pre .0) (c .before .before .loop .i - 1) (omega arith)
@@ -89,7 +88,7 @@ giving-spec =
     μ-loop
     loop-holds
     sub-i
-    shared-slice-read-m
+    shared-slice-read-t10
     gives-requires
     slice-write-modules
     add-n

@@ -1,4 +1,4 @@
--- `giving::importers` meets its contract. The loop's invariant: the set and the rows from i on show what all rows do. The measure is what is
+-- `giving::importers` meets its contract. The loop's invariant: the set and the rows from a position on show what all rows do. The measure is what is
 -- left of the section. Assumes nothing.
 use Prim.Native.Nat.{_-_, _≤_}
 use borrow.Author.Needs.{needs}
@@ -12,12 +12,12 @@ use Rattle.giving.proofs.importers.Statement.{statement}
 use Rattle.giving.proofs.importers.Tie as tie
 
 abbrev Inv-loop : tie.InvT-loop
-Inv-loop imports set₀ i₀ set i =
-    (i ≤ length imports)
-    × Gathering (λ (r : Import). r .importer) isImporter (pairRows importRow imports) (pairRows importRow (drop i imports)) set
+Inv-loop imports set₀ at₀ set at =
+    (at ≤ length imports)
+    × Gathering (λ (r : Import). r .importer) isImporter (pairRows importRow imports) (pairRows importRow (drop at imports)) set
 
 abbrev μ-loop : tie.MeasureT-loop
-μ-loop imports set₀ i₀ set i = length imports - i
+μ-loop imports set₀ at₀ set at = length imports - at
 
 loop-holds : tie.Need-loop-holds Inv-loop μ-loop
 loop-holds c = (
@@ -28,30 +28,31 @@ loop-holds c = (
 add-loop : tie.Need-add-loop Inv-loop μ-loop
 add-loop c = search needs
 
-shared-slice-read-with : tie.Need-shared-slice-read-with Inv-loop μ-loop
-shared-slice-read-with c = omega arith
+import-at-requires : tie.Need-import-at-requires Inv-loop μ-loop
+import-at-requires c κs = omega arith
 
 with-requires : tie.Need-with-requires Inv-loop μ-loop
 with-requires c κs =
-    let head = c .before .before .loop in
-    gathering-below _ _ (head .inv .1) (pairs-at importRow (c .before .before .before .before .args .imports .now) (head .i) (omega arith))
+    let head = c .before .before in
+    rw (c .import-at .ensures) (gathering-below _ _ (head .loop .inv .1) (pairs-at importRow (head .before .before .args .imports .now) (head .loop .at) (omega arith)))
 
-add-i : tie.Need-add-i Inv-loop μ-loop
-add-i c = search needs
+add-at : tie.Need-add-at Inv-loop μ-loop
+add-at c = search needs
 
 loop-less : tie.Need-loop-less Inv-loop μ-loop
 loop-less c = omega arith
 
 loop-again : tie.Need-loop-again Inv-loop μ-loop
 loop-again c =
-    let head = c .before .before .before .loop in (
+    let head = c .before .before .before in
+    let first = pairs-at importRow (head .before .before .args .imports .now) (head .loop .at) (omega arith) in (
       omega arith,
-      gathering-next _ _ (head .inv .1) (pairs-at importRow (c .before .before .before .before .before .args .imports .now) (head .i) (omega arith)) _ (c .with .ensures),
+      gathering-next _ _ (head .loop .inv .1) first _ (rw (c .before .import-at .ensures) at (c .with .ensures)),
     )
 
 returns : tie.Need-returns Inv-loop μ-loop
 returns c =
-    gathering-end _ _ (c .before .loop .inv .1) (pairs-end importRow (c .before .before .before .args .imports .now) (c .before .loop .i) (omega arith))
+    gathering-end _ _ (c .before .loop .inv .1) (pairs-end importRow (c .before .before .before .args .imports .now) (c .before .loop .at) (omega arith))
 
 pub importers-spec : {M : Type 1} → statement M
 importers-spec =
@@ -61,9 +62,9 @@ importers-spec =
     μ-loop
     loop-holds
     add-loop
-    shared-slice-read-with
+    import-at-requires
     with-requires
-    add-i
+    add-at
     loop-less
     loop-again
     returns)

@@ -1,7 +1,7 @@
 -- `giving::keeps_row_order` meets its contract. Assumes nothing.
 use borrow.Author.Needs.{needs}
 use native.Mathlib.Omega.{arith}
-use mathlib.Core.Path.{_≡_, sym, ap, _∙_}
+use mathlib.Core.Path.{sym}
 use Rattle.giving.specs.SetLaws.{member-below, keeps-other, keeps-one}
 use Rattle.giving.proofs.keeps_row_order.Statement.{statement}
 use Rattle.giving.proofs.keeps_row_order.Tie as tie

@@ -36,38 +36,31 @@ loop-holds c = (omega arith, refl, refl, λ p groups a. chaining-start a)
 sub-i : tie.Need-sub-i Inv-loop μ-loop
 sub-i c = omega arith
 
-mul-owner-of : tie.Need-mul-owner-of Inv-loop μ-loop
-mul-owner-of c = omega arith
+mul-need-at : tie.Need-mul-need-at Inv-loop μ-loop
+mul-need-at c = omega arith
 
-shared-slice-read-owner-of : tie.Need-shared-slice-read-owner-of Inv-loop μ-loop
-shared-slice-read-owner-of c = omega arith
+need-at-requires : tie.Need-need-at-requires Inv-loop μ-loop
+need-at-requires c κs = omega arith
 
 owner-of-requires : tie.Need-owner-of-requires Inv-loop μ-loop
-owner-of-requires c κs = dependant-room (owned (c .before .before)) (omega arith)
-
-mul-owner-of-2 : tie.Need-mul-owner-of-2 Inv-loop μ-loop
-mul-owner-of-2 c = omega arith
-
-add-owner-of : tie.Need-add-owner-of Inv-loop μ-loop
-add-owner-of c = omega arith
-
-shared-slice-read-owner-of-2 : tie.Need-shared-slice-read-owner-of-2 Inv-loop μ-loop
-shared-slice-read-owner-of-2 c = omega arith
+owner-of-requires c κs = rw (c .need-at .ensures) (dependant-room (owned (c .before .before)) (omega arith))
 
 owner-of-requires-2 : tie.Need-owner-of-requires-2 Inv-loop μ-loop
-owner-of-requires-2 c κs = dependency-room (owned (c .before .before .before .before)) (omega arith)
+owner-of-requires-2 c κs = rw (c .before .need-at .ensures) (dependency-room (owned (c .before .before .before)) (omega arith))
 
 both-own-requires : tie.Need-both-own-requires Inv-loop μ-loop
 both-own-requires c κs = search needs
 
 -- with the key read: it is that of the row, and has a head
 abbrev head : tie.After-both-own Inv-loop μ-loop → tie.At-loop Inv-loop μ-loop
-head c = c .before .before .before .before .before .before .before .before
+head c = c .before .before .before .before .before .before .before
 
 key : (c : tie.After-both-own Inv-loop μ-loop) {p : Project} {groups : List (List ℕ)}
     → Owned p groups (entry (head c) .args .items .now) (entry (head c) .args .needs .now) (entry (head c) .args .owners .now)
     → getD (keysOf p groups) (head c .loop .i - 1) 0 ≡ c .both-own .result
-key c o = key-read o (omega arith) (c .before .before .before .before .before .owner-of .ensures) (c .before .before .before .owner-of2 .ensures) (c .both-own .ensures)
+key c o =
+    let row = c .before .before .before .before .before .need-at .ensures in
+    key-read o (omega arith) (rw row at (c .before .before .before .before .owner-of .ensures)) (rw row at (c .before .before .before .owner-of2 .ensures)) (c .both-own .ensures)
 
 below : (c : tie.After-both-own Inv-loop μ-loop) → c .both-own .result < moduleLimit + 1
 below c = let o = owned (head c) in omega (arith, key c o, key-below o {row = head c .loop .i - 1} (omega arith))
@@ -121,12 +114,9 @@ chain-needs-spec =
     μ-loop
     loop-holds
     sub-i
-    mul-owner-of
-    shared-slice-read-owner-of
+    mul-need-at
+    need-at-requires
     owner-of-requires
-    mul-owner-of-2
-    add-owner-of
-    shared-slice-read-owner-of-2
     owner-of-requires-2
     both-own-requires
     cast-link-row

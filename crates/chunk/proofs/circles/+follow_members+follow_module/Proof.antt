@@ -67,8 +67,8 @@ module _ (t : ℕ) where
   members-loop-holds : follow-members-lts.Need-loop-holds (members-calls t) (follow-members-at t) follow-members.Post Inv-loop μ-loop
   members-loop-holds c = (omega arith, refl, follows-none (c .before .before .before .args .section .now) (c .before .before .before .pre .1 .gathers))
 
-  members-shared-slice-read-m : follow-members-lts.Need-shared-slice-read-m (members-calls t) (follow-members-at t) follow-members.Post Inv-loop μ-loop
-  members-shared-slice-read-m c = omega arith
+  members-shared-slice-read-t12 : follow-members-lts.Need-shared-slice-read-t12 (members-calls t) (follow-members-at t) follow-members.Post Inv-loop μ-loop
+  members-shared-slice-read-t12 c = omega arith
 
   -- a member at a turn is a module
   members-below : (c : follow-members-lts.In-loop (members-calls t) (follow-members-at t) follow-members.Post Inv-loop μ-loop)
@@ -151,7 +151,7 @@ module _ (t : ℕ) where
       let a = w .before .before .before in
       let l = a .before .before .before .before in
       let b = l .before .before .before .before in
-      let fewer = unfollowed-fewer (b .args .section .now) (b .args .m) (b .pre .1) (l .listed-with .ensures) (a .append-new .ensures) (w .with .result) (w .with .ensures) in (
+      let fewer = unfollowed-fewer (b .args .section .now) (b .args .m .0) (b .pre .1) (l .listed-with .ensures) (a .append-new .ensures) (w .with .result) (w .with .ensures) in (
         omega (arith, b .pre .0),
         record { sound = b .pre .1 .sound; below = l .listed-with .ensures .grows .gathers .below; gathers = a .append-new .ensures .grows .gathers },
       )
@@ -168,13 +168,13 @@ module _ (t : ℕ) where
       let a = w .before .before .before in
       let l = a .before .before .before .before in
       let b = l .before .before .before .before in
-      follows-module (b .args .section .now) (b .args .m) (b .pre .1) (l .listed-with .ensures) (a .append-new .ensures) (w .with .result) (w .with .ensures)
+      follows-module (b .args .section .now) (b .args .m .0) (b .pre .1) (l .listed-with .ensures) (a .append-new .ensures) (w .with .result) (w .with .ensures)
       (o .follow-members .ensures)
 
 pub +follow-members+follow-module-spec : {M : Type 1} → statement M
 +follow-members+follow-module-spec =
     close μ-follow-members μ-follow-module
-    (λ t. follow-members-lts.spec (members-calls t) (follow-members-at t) follow-members.Post Inv-loop μ-loop (members-loop-holds t) (members-shared-slice-read-m t)
+    (λ t. follow-members-lts.spec (members-calls t) (follow-members-at t) follow-members.Post Inv-loop μ-loop (members-loop-holds t) (members-shared-slice-read-t12 t)
     (members-has-requires t) (members-follow-module-requires t) (members-add-i t) (members-loop-less t) (members-loop-again t) (members-same-length t)
     (members-returns t))
     λ t. follow-module-lts.spec (module-calls t) (follow-module-at t) follow-module.Post (module-slice-aggregate-listed-with t) (module-listed-with-requires t)

@@ -18,8 +18,8 @@ abbrev μ-loop : tie.MeasureT-loop
 loop-holds : tie.Need-loop-holds Inv-loop μ-loop
 loop-holds c = (omega arith, refl, appended-none (c .before .before .pre .0))
 
-shared-slice-read-append-one : tie.Need-shared-slice-read-append-one Inv-loop μ-loop
-shared-slice-read-append-one c = omega arith
+shared-slice-read-t11 : tie.Need-shared-slice-read-t11 Inv-loop μ-loop
+shared-slice-read-t11 c = omega arith
 
 append-one-requires : tie.Need-append-one-requires Inv-loop μ-loop
 append-one-requires c κs =
@@ -53,7 +53,7 @@ append-new-spec =
     Inv-loop
     μ-loop
     loop-holds
-    shared-slice-read-append-one
+    shared-slice-read-t11
     append-one-requires
     add-i
     loop-less

@@ -13,12 +13,12 @@ has-requires c κs = search needs
 returns : tie.Need-returns
 returns c =
     let s = c .before .before .before in
-    appended-old (s .pre .0) (s .args .m) (sym (c .before .has .ensures) ∙ c .if1 .taken)
+    appended-old (s .pre .0) (s .args .m .0) (sym (c .before .has .ensures) ∙ c .if1 .taken)
 
 slice-write-array : tie.Need-slice-write-array
 slice-write-array c =
     let s = c .before .before .before in
-    let n = count-below (s .pre .0) (s .args .m) (s .pre .1) (sym (c .before .has .ensures) ∙ c .if1 .left) in
+    let n = count-below (s .pre .0) (s .args .m .0) (s .pre .1) (sym (c .before .has .ensures) ∙ c .if1 .left) in
     omega (arith, s .pre .0 .room)
 
 with-requires : tie.Need-with-requires
@@ -33,7 +33,7 @@ same-length c = search needs
 returns-2 : tie.Need-returns-2
 returns-2 c =
     let s = c .before .before .before .before in
-    appended-new (s .pre .0) (s .args .m) (s .pre .1) (sym (c .before .before .has .ensures) ∙ c .before .if1 .left)
+    appended-new (s .pre .0) (s .args .m .0) (s .pre .1) (sym (c .before .before .has .ensures) ∙ c .before .if1 .left)
     (c .with .result) (c .with .ensures)
 
 pub append-one-spec : {M : Type 1} → statement M

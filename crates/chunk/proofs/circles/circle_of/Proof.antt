@@ -30,7 +30,7 @@ slice-aggregate-follow-module c = search needs
 follow-module-requires : tie.Need-follow-module-requires
 follow-module-requires c κs =
     let b = c .before .before .before .before .before .before in
-    module-ready (b .args .section .now) (b .args .m .0) (b .pre) (c .before .new2 .ensures) (omega arith)
+    module-ready (b .args .section .now) (b .args .m .0) (b .pre) (c .new2 .ensures) (omega arith)
 
 array-share-prefix-array : tie.Need-array-share-prefix-array
 array-share-prefix-array c = search needs
@@ -52,8 +52,8 @@ returns-2 : tie.Need-returns-2
 returns-2 c =
     let r = c .before .before .before in
     let f = r .before .before .before .before in
-    let n = f .before .before in
-    let b = n .before .before .before .before .before in
+    let n = f .before in
+    let b = n .before .before .before .before .before .before in
     rw (r .copy-reversed .ensures) (circle-gathered (b .args .section .now) (b .args .m .0) (b .pre) (n .new2 .ensures) (f .follow-module .ensures))
 
 pub circle-of-spec : {M : Type 1} → statement M
@@ -63,8 +63,8 @@ circle-of-spec =
     is-listed-requires
     new-requires
     returns
-    new-requires-2
     slice-aggregate-follow-module
+    new-requires-2
     follow-module-requires
     array-share-prefix-array
     slice-aggregate-copy-reversed

@@ -9,7 +9,7 @@ use Rattle.chunk.proofs.circles.holds.Statement.{statement}
 use Rattle.chunk.proofs.circles.holds.Tie as tie
 
 abbrev Inv-loop : tie.InvT-loop
-Inv-loop list m i₀ i = (i ≤ length list) × (elem m (drop i list) ≡ elem m list)
+Inv-loop list m i₀ i = (i ≤ length list) × (elem (m .0) (drop i list) ≡ elem (m .0) list)
 
 abbrev μ-loop : tie.MeasureT-loop
 μ-loop list m i₀ i = length list - i
@@ -22,9 +22,9 @@ shared-slice-read-if1 c = omega arith
 
 returns : tie.Need-returns Inv-loop μ-loop
 returns c =
-    let l = c .before .before .before in
+    let l = c .before .before .before .before in
     let a = l .before .args in
-    sym (elem-here (a .m) (a .list .now) (l .loop .i) (c .before .before .loop-test .taken) (c .if1 .taken)) ∙ l .loop .inv .1
+    sym (elem-here (a .m .0) (a .list .now) (l .loop .i) (c .before .before .before .loop-test .taken) (c .if1 .taken)) ∙ l .loop .inv .1
 
 add-i : tie.Need-add-i Inv-loop μ-loop
 add-i c = omega arith
@@ -34,15 +34,15 @@ loop-less c = omega arith
 
 loop-again : tie.Need-loop-again Inv-loop μ-loop
 loop-again c =
-    let l = c .before .before .before in
+    let l = c .before .before .before .before in
     let a = l .before .args in
-    (omega arith, elem-later (a .m) (a .list .now) (l .loop .i) (c .before .before .loop-test .taken) (c .if1 .left) ∙ l .loop .inv .1)
+    (omega arith, elem-later (a .m .0) (a .list .now) (l .loop .i) (c .before .before .before .loop-test .taken) (c .if1 .left) ∙ l .loop .inv .1)
 
 returns-2 : tie.Need-returns-2 Inv-loop μ-loop
 returns-2 c =
     let l = c .before in
     let a = l .before .args in
-    sym (elem-none (a .m) (a .list .now) (l .loop .i) (c .loop-test .left)) ∙ l .loop .inv .1
+    sym (elem-none (a .m .0) (a .list .now) (l .loop .i) (c .loop-test .left)) ∙ l .loop .inv .1
 
 pub holds-spec : {M : Type 1} → statement M
 holds-spec =

@@ -21,8 +21,8 @@ abbrev μ-loop : tie.MeasureT-loop
 loop-holds : tie.Need-loop-holds Inv-loop μ-loop
 loop-holds c = (search needs, omega arith)
 
-shared-slice-read-count-open : tie.Need-shared-slice-read-count-open Inv-loop μ-loop
-shared-slice-read-count-open c = search needs
+shared-slice-read-t12 : tie.Need-shared-slice-read-t12 Inv-loop μ-loop
+shared-slice-read-t12 c = search needs
 
 count-open-requires : tie.Need-count-open-requires Inv-loop μ-loop
 count-open-requires c κs =
@@ -68,7 +68,7 @@ count-all-spec =
     Inv-loop
     μ-loop
     loop-holds
-    shared-slice-read-count-open
+    shared-slice-read-t12
     count-open-requires
     add-n
     add-i

@@ -1,6 +1,6 @@
--- `chunk::imports::lay_out` meets its contract. The loop's invariant: the rows before byte i are laid out. The measure is what is left of the section.
+-- `chunk::imports::lay_out` meets its contract. The loop's invariant: the rows before the position are laid out. The measure is what is left of the section.
 -- Assumes nothing.
-use Prim.Native.Nat.{_+_, _-_, _≤_}
+use Prim.Native.Nat.{_-_, _≤_}
 use native.Mathlib.Omega.{arith}
 use mathlib.Core.Path.{sym, _∙_}
 use lib.ListN.{length, drop}
@@ -12,11 +12,11 @@ use Rattle.chunk.proofs.imports.lay_out.Statement.{statement}
 use Rattle.chunk.proofs.imports.lay_out.Tie as tie
 
 abbrev Inv-loop : tie.InvT-loop
-Inv-loop section to₀ heads next seen₀ from₀ n₀ i₀ to seen from n i =
-    (i ≤ length section) × Laying (pairRows importRow section) (pairRows importRow (drop i section)) seen from to n
+Inv-loop section to₀ heads next seen₀ from₀ n₀ at₀ to seen from n at =
+    (at ≤ length section) × Laying (pairRows importRow section) (pairRows importRow (drop at section)) seen from to n
 
 abbrev μ-loop : tie.MeasureT-loop
-μ-loop section to₀ heads next seen₀ from₀ n₀ i₀ to seen from n i = length section - i
+μ-loop section to₀ heads next seen₀ from₀ n₀ at₀ to seen from n at = length section - at
 
 loop-holds : tie.Need-loop-holds Inv-loop μ-loop
 loop-holds c =
@@ -26,45 +26,42 @@ loop-holds c =
 add-loop : tie.Need-add-loop Inv-loop μ-loop
 add-loop c = search needs
 
+import-at-requires : tie.Need-import-at-requires Inv-loop μ-loop
+import-at-requires c κs = omega arith
+
 slice-aggregate-add : tie.Need-slice-aggregate-add Inv-loop μ-loop
-slice-aggregate-add c = sym (c .before .before .loop .inv .1 .seen-size)
+slice-aggregate-add c = sym (c .before .before .before .loop .inv .1 .seen-size)
 
 slice-aggregate-add-2 : tie.Need-slice-aggregate-add-2 Inv-loop μ-loop
-slice-aggregate-add-2 c = sym (c .before .before .before .loop .inv .1 .from-size)
-
-shared-slice-read-add : tie.Need-shared-slice-read-add Inv-loop μ-loop
-shared-slice-read-add c = search needs
+slice-aggregate-add-2 c = sym (c .before .before .before .before .loop .inv .1 .from-size)
 
 cast-add : tie.Need-cast-add Inv-loop μ-loop
-cast-add c = omega (arith, c .shared-slice-known2 .given (c .before .before .before .before .before .loop .i))
-
-add-add : tie.Need-add-add Inv-loop μ-loop
-add-add c = search needs
-
-shared-slice-read-add-2 : tie.Need-shared-slice-read-add-2 Inv-loop μ-loop
-shared-slice-read-add-2 c = search needs
+cast-add c = search needs
 
 cast-add-2 : tie.Need-cast-add-2 Inv-loop μ-loop
-cast-add-2 c = omega (arith, c .shared-slice-known3 .given (c .before .before .before .before .before .before .loop .i + 1))
+cast-add-2 c = search needs
 
 add-requires : tie.Need-add-requires Inv-loop μ-loop
 add-requires c κs =
-    let turn = c .before .before .before .before .before in
-    laying-room (turn .before .before .before .before .before .before .args .section .now) (turn .before .loop .i) (turn .loop-test .taken) (turn .before .loop .inv .1)
+    let row = c .before .before .before .before .before in
+    let turn = row .before in
+    rw (row .import-at .ensures)
+    (laying-room (turn .before .before .before .before .before .before .args .section .now) (turn .before .loop .at) (omega arith) (turn .before .loop .inv .1))
 
-add-i : tie.Need-add-i Inv-loop μ-loop
-add-i c = search needs
+add-at : tie.Need-add-at Inv-loop μ-loop
+add-at c = search needs
 
 loop-less : tie.Need-loop-less Inv-loop μ-loop
-loop-less c = omega (arith, c .before .before .before .before .before .before .before .before .before .before .loop-test .taken)
+loop-less c = omega (arith, c .before .before .before .before .before .before .before .before .before .before .before .loop-test .taken)
 
 loop-again : tie.Need-loop-again Inv-loop μ-loop
 loop-again c =
-    let turn = c .before .before .before .before .before .before .before .before .before .before in
-    let add = c .before .before .before .before .add in (
+    let add = c .before .before .before .before .add in
+    let row = c .before .before .before .before .before .before .before .before .before .before in
+    let turn = row .before in (
       omega (arith, turn .loop-test .taken),
-      laying-next (turn .before .before .before .before .before .before .args .section .now) (turn .before .loop .i) (turn .loop-test .taken) (turn .before .loop .inv .1) (add .ensures) (add .kept .0)
-          (add .kept .1 .0) (add .kept .1 .1 .0),
+      laying-next (turn .before .before .before .before .before .before .args .section .now) (turn .before .loop .at) (omega arith) (turn .before .loop .inv .1)
+          (rw (row .import-at .ensures) at (add .ensures)) (add .kept .0) (add .kept .1 .0) (add .kept .1 .1 .0),
     )
 
 slice-aggregate-link : tie.Need-slice-aggregate-link Inv-loop μ-loop
@@ -89,7 +86,7 @@ returns c =
     let start = c .before .before .before .before .before .before .before .before .before .before .before .before .before .before in
     let end = c .before .before .before .before .before .before .before .before in
     let link = c .before .before .before .before .link in
-    laying-end (start .args .section .now) (end .before .loop .i) (end .loop-test .left) (end .before .loop .inv .1)
+    laying-end (start .args .section .now) (end .before .loop .at) (omega (arith, end .loop-test .left)) (end .before .loop .inv .1)
     (link .kept .1 .1 .0 ∙ start .pre .1 .heads-zeros .size) (link .kept .1 .1 .1 .0 ∙ start .pre .1 .next-zeros .size) (start .pre .1 .heads-zeros) (start .pre .1 .next-zeros) (link .ensures)
 
 pub lay-out-spec : {M : Type 1} → statement M
@@ -100,15 +97,13 @@ lay-out-spec =
     μ-loop
     loop-holds
     add-loop
+    import-at-requires
     slice-aggregate-add
     slice-aggregate-add-2
-    shared-slice-read-add
     cast-add
-    add-add
-    shared-slice-read-add-2
     cast-add-2
     add-requires
-    add-i
+    add-at
     loop-less
     loop-again
     slice-aggregate-link

@@ -21,8 +21,8 @@ abbrev μ-loop : tie.MeasureT-loop
 loop-holds : tie.Need-loop-holds Inv-loop μ-loop
 loop-holds c = (search needs, placing-start (c .before .before .before .before .before .pre .1 .1))
 
-shared-slice-read-place-open : tie.Need-shared-slice-read-place-open Inv-loop μ-loop
-shared-slice-read-place-open c = search needs
+shared-slice-read-t14 : tie.Need-shared-slice-read-t14 Inv-loop μ-loop
+shared-slice-read-t14 c = search needs
 
 place-open-requires : tie.Need-place-open-requires Inv-loop μ-loop
 place-open-requires c κs =
@@ -71,7 +71,7 @@ place-all-spec =
     Inv-loop
     μ-loop
     loop-holds
-    shared-slice-read-place-open
+    shared-slice-read-t14
     place-open-requires
     add-i
     loop-less

@@ -26,8 +26,8 @@ loop-holds c =
     let a = s .args in
     (omega arith, appending-start (openImports (a .to .now) (a .heads .now) (a .next .now) (a .done) (a .g .have) (gatheredOn (a .circle .now) (a .g))) (s .pre .1))
 
-slice-read-append-open : tie.Need-slice-read-append-open Inv-loop μ-loop
-slice-read-append-open c =
+slice-read-t14 : tie.Need-slice-read-t14 Inv-loop μ-loop
+slice-read-t14 c =
     let l = c .before .before in
     omega (arith, l .before .before .before .before .before .pre .1 .fits, l .loop .inv .1 .size)
 
@@ -79,7 +79,7 @@ append-all-spec =
     Inv-loop
     μ-loop
     loop-holds
-    slice-read-append-open
+    slice-read-t14
     append-open-requires
     add-i
     loop-less

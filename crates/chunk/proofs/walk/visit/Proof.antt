@@ -8,8 +8,8 @@ use Rattle.chunk.proofs.walk.visit.Tie as tie
 sub-top : tie.Need-sub-top
 sub-top c = search needs
 
-slice-read-m : tie.Need-slice-read-m
-slice-read-m c = search needs
+slice-read-t12 : tie.Need-slice-read-t12
+slice-read-t12 c = search needs
 
 has-requires : tie.Need-has-requires
 has-requires c κs = let s = c .before .before .before .before .before .before .before .before in front-below (at-front (s .pre .1 .2) (s .pre .0))
@@ -51,7 +51,7 @@ visit-spec =
     tie.close
     (tie.spec
     sub-top
-    slice-read-m
+    slice-read-t12
     has-requires
     passed-requires
     returns

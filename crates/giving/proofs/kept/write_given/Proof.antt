@@ -1,9 +1,9 @@
 -- `giving::kept::write_given` meets its contract. The loop's invariant: with the rows of the modules from i on stored the array is as it is to be. The
 -- measure is the number of modules left. Assumes nothing.
-use Prim.Native.Nat.{ℕ, _-_, _+_, _≤_, _<_}
+use Prim.Native.Nat.{_-_, _+_, _<_}
 use borrow.Author.Needs.{needs}
 use native.Mathlib.Omega.{arith}
-use mathlib.Core.Path.{_≡_, refl, sym, ap, _∙_}
+use mathlib.Core.Path.{_≡_, refl}
 use lib.ListN.{length, getD, drop}
 use Rattle.rules.specs.Project.{Project}
 use Rattle.rules.specs.Items.{keptRowsOf, givenRows}

@@ -1,6 +1,6 @@
 -- `giving::kept::write_kept` meets its contract. The loop's invariant: with the kept rows along the rest of the chain stored the array is as it is to be.
 -- The measure is the number of rows that may stand from e on. Assumes nothing.
-use Prim.Native.Nat.{ℕ, _-_, _+_, _/_, _≤_, _<_}
+use Prim.Native.Nat.{ℕ, _-_, _/_, _≤_}
 use borrow.Author.Needs.{needs}
 use native.Mathlib.Omega.{arith}
 use mathlib.Core.Path.{_≡_, refl, sym, ap, _∙_}
@@ -44,16 +44,11 @@ loop-holds c =
 sub-row : tie.Need-sub-row Inv-loop μ-loop
 sub-row c = omega arith
 
-mul-kind-of : tie.Need-mul-kind-of Inv-loop μ-loop
-mul-kind-of c = omega (arith, most (c .before), along (c .before) .most)
+mul-item-at : tie.Need-mul-item-at Inv-loop μ-loop
+mul-item-at c = omega (arith, most (c .before), along (c .before) .most)
 
-add-kind-of : tie.Need-add-kind-of Inv-loop μ-loop
-add-kind-of c = omega (arith, most (c .before), along (c .before) .most)
-
-shared-slice-read-kind-of : tie.Need-shared-slice-read-kind-of Inv-loop μ-loop
-shared-slice-read-kind-of c =
-    let head = c .before .before in
-    kind-room (along head) (head .loop .e - 1) (omega (arith, most head))
+item-at-requires : tie.Need-item-at-requires Inv-loop μ-loop
+item-at-requires c κs = let head = c .before in omega (arith, kind-room (along head) (head .loop .e - 1) (omega (arith, most head)))
 
 kind-of-requires : tie.Need-kind-of-requires Inv-loop μ-loop
 kind-of-requires c κs = search needs
@@ -67,7 +62,8 @@ kept-here : (c : tie.After-is-kept Inv-loop μ-loop) (p : Project) (m : ℕ)
     → isKept (kindAt p (c .before .before .before .before .loop .e - 1)) ≡ c .is-kept .result
 kept-here c p m h =
     let head = c .before .before .before .before in
-    ap isKept (kind-read h (head .loop .e - 1) (omega (arith, head .loop .inv .1 p m h .0))) ∙ c .before .kind-of .ensures .kept ∙ sym (c .is-kept .ensures)
+    ap isKept (kind-read h (head .loop .e - 1) (omega (arith, head .loop .inv .1 p m h .0)))
+    ∙ (rw (c .before .before .item-at .ensures) at (c .before .kind-of .ensures .kept)) ∙ sym (c .is-kept .ensures)
 
 cast-out : tie.Need-cast-out Inv-loop μ-loop
 cast-out c = let head = c .before .before .before .before .before in omega (arith, most head, along head .most)
@@ -89,7 +85,7 @@ shared-slice-read-e : tie.Need-shared-slice-read-e Inv-loop μ-loop
 shared-slice-read-e c = let head = c .before .before .before .before .before .before in omega (arith, most head, along head .next-size)
 
 cast-e : tie.Need-cast-e Inv-loop μ-loop
-cast-e c = omega (arith, c .shared-slice-known4 .given (c .before .before .before .before .before .before .loop .e - 1))
+cast-e c = omega (arith, c .shared-slice-known3 .given (c .before .before .before .before .before .before .loop .e - 1))
 
 loop-less : tie.Need-loop-less Inv-loop μ-loop
 loop-less c =
@@ -125,9 +121,8 @@ write-kept-spec =
     μ-loop
     loop-holds
     sub-row
-    mul-kind-of
-    add-kind-of
-    shared-slice-read-kind-of
+    mul-item-at
+    item-at-requires
     kind-of-requires
     is-kept-requires
     cast-out

@@ -1,6 +1,6 @@
 -- `split::chains::write_modules` meets its contract. The loop's invariant: with the modules of the rows from i on stored the array is as it is to be.
 -- The measure is the number of rows left. Assumes nothing.
-use Prim.Native.Nat.{_-_, _*_, _/_}
+use Prim.Native.Nat.{_-_, _/_}
 use native.Mathlib.Omega.{arith}
 use mathlib.Core.Path.{_≡_, refl, _∙_}
 use lib.ListN.{length, length-set, drop}
@@ -20,17 +20,17 @@ abbrev μ-loop : tie.MeasureT-loop
 loop-holds : tie.Need-loop-holds Inv-loop μ-loop
 loop-holds c = (refl, refl)
 
-mul-module-of : tie.Need-mul-module-of Inv-loop μ-loop
-mul-module-of c = omega arith
+mul-item-at : tie.Need-mul-item-at Inv-loop μ-loop
+mul-item-at c = omega arith
 
-shared-slice-read-module-of : tie.Need-shared-slice-read-module-of Inv-loop μ-loop
-shared-slice-read-module-of c = omega arith
+item-at-requires : tie.Need-item-at-requires Inv-loop μ-loop
+item-at-requires c κs = omega arith
 
 cast-module-of : tie.Need-cast-module-of Inv-loop μ-loop
-cast-module-of c = omega (arith, c .shared-slice-known .given (2 * c .before .before .loop .i))
+cast-module-of c = omega arith
 
-mul-module-of-2 : tie.Need-mul-module-of-2 Inv-loop μ-loop
-mul-module-of-2 c = omega arith
+mul-module-of : tie.Need-mul-module-of Inv-loop μ-loop
+mul-module-of c = omega arith
 
 slice-write-module-of : tie.Need-slice-write-module-of Inv-loop μ-loop
 slice-write-module-of c = omega arith
@@ -43,9 +43,9 @@ loop-less c = omega arith
 
 loop-again : tie.Need-loop-again Inv-loop μ-loop
 loop-again c =
-    let head = c .before .before .loop in
-    let a = c .before .before .before .args in
-    (simp length-set (head .inv .0), modules-turn (a .items .now) (head .module-of) (head .i) (omega arith) ∙ head .inv .1)
+    let h = c .before .before .before in
+    let a = h .before .before .before .args in
+    (simp length-set (h .loop .inv .0), rw (c .before .item-at .ensures) (modules-turn (a .items .now) (h .loop .module-of) (h .loop .i) (omega arith) ∙ h .loop .inv .1))
 
 same-length : tie.Need-same-length Inv-loop μ-loop
 same-length c = c .before .loop .inv .0
@@ -53,7 +53,7 @@ same-length c = c .before .loop .inv .0
 returns : tie.Need-returns Inv-loop μ-loop
 returns c =
     let head = c .before .loop in
-    modules-written (c .before .before .args .items .now) (head .module-of) (head .i) (omega arith) ∙ head .inv .1
+    modules-written (c .before .before .before .before .args .items .now) (head .module-of) (head .i) (omega arith) ∙ head .inv .1
 
 pub write-modules-spec : {M : Type 1} → statement M
 write-modules-spec =
@@ -62,10 +62,10 @@ write-modules-spec =
     Inv-loop
     μ-loop
     loop-holds
-    mul-module-of
-    shared-slice-read-module-of
+    mul-item-at
+    item-at-requires
     cast-module-of
-    mul-module-of-2
+    mul-module-of
     slice-write-module-of
     add-i
     loop-less

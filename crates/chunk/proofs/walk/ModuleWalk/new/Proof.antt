@@ -1,3 +1,5 @@
+-- `chunk::walk::ModuleWalk::new` meets its contract. The loop's invariant: the list's first i entries are the i largest modules, the largest undermost.
+-- Assumes nothing.
 use Prim.Native.Nat.{_-_, _≤_}
 use native.Mathlib.Omega.{arith}
 use mathlib.Core.Path.{_≡_, refl}
@@ -5,6 +7,7 @@ use lib.ListN.{length, length-set}
 use Rattle.rules.specs.Lists.{upFrom}
 use Rattle.lists.specs.Stacks.{stack}
 use Rattle.chunk.specs.WalkLaws.{fill-more, started}
+use Rattle.chunk.specs.StartLaws.{walk-started}
 use Rattle.chunk.proofs.walk.ModuleWalk.new.Statement.{statement}
 use Rattle.chunk.proofs.walk.ModuleWalk.new.Tie as tie
 
@@ -56,11 +59,7 @@ returns c =
     let l = c .before .loop in
     let n = c .before .before .args .modules in
     let full : l .i ≡ n = omega arith in
-    record {
-      entries = started (l .list) n (c .before .before .args .entry .0) (omega arith) (rw full at (l .inv .2));
-      end = refl;
-      numbers = refl;
-    }
+    walk-started n (c .before .before .args .entry .0) (omega arith) (started (l .list) n (c .before .before .args .entry .0) (omega arith) (rw full at (l .inv .2)))
 
 pub new-spec : {M : Type 1} → statement M
 new-spec =
