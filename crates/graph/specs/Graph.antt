@@ -5,7 +5,7 @@ use mathlib.Core.Bool.{Bool}
 use mathlib.Core.List.{List, [], _∷_, map, reverse}
 use lib.Dec.{eqb}
 use lib.ListN.{length, getD, drop}
-use Rattle.rules.specs.Project.{Need, needRow}
+use Rattle.rules.specs.Project.{Need, needLimit, needRow}
 use Rattle.rules.specs.Paths.{dependenciesOf, dependantsOf, weightIn, canReach, inPaths}
 use Rattle.lists.specs.Pairs.{Pair, pair, differentPairs, pairsOf, Seen, Room, Added, targets, Onward}
 use Rattle.graph.specs.Rows.{Rows, cleared, Holds, Rest}
@@ -81,24 +81,27 @@ pub record EdgeAdded (words n x y weight : ℕ) (m : Matrices) (from to : List �
   pub reach-rest : Rest words n (m .reach) (m′ .reach)
   pub paths-rest : Rest words n (m .paths) (m′ .paths)
 
--- The neighbours of n items on chains: along the chain of x the numbers in `others` are its neighbours, in their order. Entries lead onward and the
--- numbers are items, so that a loop along a chain ends and may use them.
-pub record Chains (n : ℕ) (neighbours : ℕ → List ℕ) (others : List ℕ) (count : ℕ) (heads next : List ℕ) : Type 0 where
-  pub lists : (x : ℕ) → x < n → targets others next count (getD heads x 0) ≡ neighbours x
-  pub heads-within : (x : ℕ) → getD heads x 0 ≤ count
-  pub next-onward : (j : ℕ) → j < count → Onward (suc j) count (getD next j 0)
-  pub below : (i : ℕ) → i < count → getD others i 0 < n
-  pub others-size : count ≤ length others
+-- The neighbours of n items on chains: along the chain of each number below n, from heads[x] by `next`, stand its neighbours in their order, as entries
+-- of `ends`. The first `count` places are in use. Entries lead onward and the numbers are items, so that a loop along a chain ends and may use them.
+pub record Chained (neighbours : ℕ → List ℕ) (n : ℕ) (ends heads next : List ℕ) : Type 0 where
+  pub count : ℕ
+  pub most : count ≤ needLimit
+  pub ends-size : count ≤ length ends
   pub next-size : count ≤ length next
+  pub heads-size : n ≤ length heads
+  pub ends-below : (i : ℕ) → i < count → getD ends i 0 < n
+  pub heads-most : (x : ℕ) → x < n → getD heads x 0 ≤ count
+  pub next-onward : (i : ℕ) → i < count → Onward (suc i) count (getD next i 0)
+  pub along : (x : ℕ) → x < n → targets ends next count (getD heads x 0) ≡ neighbours x
 
 -- "`Dependencies` are outgoing, `Dependants` incoming", of needs in row order.
-pub record Neighbours (n : ℕ) (needs : List Need) (from to : List ℕ) (count : ℕ) (heads-out next-out heads-in next-in : List ℕ) : Type 0 where
-  pub dependencies : Chains n (dependenciesOf needs) to count heads-out next-out
-  pub dependants : Chains n (dependantsOf needs) from count heads-in next-in
+pub record Neighbours (n : ℕ) (needs : List Need) (from to heads-out next-out heads-in next-in : List ℕ) : Type 0 where
+  pub dependencies : Chained (dependenciesOf needs) n to heads-out next-out
+  pub dependants : Chained (dependantsOf needs) n from heads-in next-in
 
 -- What chaining the neighbours of as many items as there are heads asks for.
 pub record LinkRoom (from to : List ℕ) (count : ℕ) (heads-out next-out heads-in next-in : List ℕ) : Type 0 where
-  pub most : count < 65536
+  pub most : count ≤ needLimit
   pub from-size : count ≤ length from
   pub to-size : count ≤ length to
   pub next-out-size : count ≤ length next-out
@@ -110,6 +113,6 @@ pub record LinkRoom (from to : List ℕ) (count : ℕ) (heads-out next-out heads
 -- What it gives: where the pairs are the different ones of some needs, those needs' neighbours. From `count` on the places are as they were.
 pub record LinksMade (n : ℕ) (from to : List ℕ) (count : ℕ) (old-out old-in heads-out next-out heads-in next-in : List ℕ) : Type 0 where
   pub neighbours : (needs : List Need) → pairsOf from to count ≡ differentPairs (map ends needs)
-      → Neighbours n needs from to count heads-out next-out heads-in next-in
+      → Neighbours n needs from to heads-out next-out heads-in next-in
   pub out-rest : drop count next-out ≡ drop count old-out
   pub in-rest : drop count next-in ≡ drop count old-in

@@ -5,15 +5,15 @@ use mathlib.Core.Path.{_≡_, refl, sym, ap, ap₂, _∙_}
 use mathlib.Core.Bool.{_||_, and-comm}
 use mathlib.Core.List.{List, [], _∷_, map, map-map, map-append, zipWith}
 use lib.Dec.{eqb}
-use lib.ListN.{length, getD, take, replicate, length-take, length-map, length-replicate}
+use lib.ListN.{length, getD, take, replicate, length-replicate}
 use Rattle.rules.specs.Lists.{any}
-use Rattle.rules.specs.Project.{Need}
+use Rattle.rules.specs.Project.{Need, needLimit}
 use Rattle.rules.specs.Paths.{dependenciesOf, dependantsOf}
 use Rattle.laws.specs.Lists.{Tested, holds, fails, tested}
 use Rattle.lists.specs.ArrayLaws.{zeros-replicate}
 use Rattle.lists.specs.Pairs.{Pair, pair, samePair, holdsPair, secondsOf, addPair, addPairs, differentPairs, pairsOf, Linkable, Linked}
 use Rattle.lists.specs.PairLaws.{addPair-old, addPair-new, different-seconds, targets-seconds}
-use Rattle.graph.specs.Graph.{Matrices, ends, Shows, Chains, LinkRoom, LinksMade}
+use Rattle.graph.specs.Graph.{ends, Chained, LinkRoom, LinksMade}
 
 -- Pairs with their numbers exchanged: the different ones are the exchanged different ones.
 swap : Pair → Pair
@@ -46,17 +46,6 @@ zip-swap [] (y ∷ ys) = refl
 zip-swap (x ∷ xs) [] = refl
 zip-swap (x ∷ xs) (y ∷ ys) = ap (λ (l : List Pair). pair y x ∷ l) (zip-swap xs ys)
 
--- There are no more pairs than numbers on either array.
-zip-most : (xs ys : List ℕ) → length (zipWith pair xs ys) ≤ length xs
-unfolding zipWith
-zip-most [] ys = omega arith
-zip-most (x ∷ xs) [] = omega arith
-zip-most (x ∷ xs) (y ∷ ys) = omega (arith, zip-most xs ys)
-
-pairs-most : (from to : List ℕ) (n : ℕ) → length (pairsOf from to n) ≤ length from
-unfolding pairsOf
-pairs-most from to n = omega (arith, zip-most (take n from) (take n to), length-take n from)
-
 pairs-swap : (from to : List ℕ) (n : ℕ) → pairsOf to from n ≡ map swap (pairsOf from to n)
 unfolding pairsOf
 pairs-swap from to n = zip-swap (take n from) (take n to)
@@ -82,13 +71,13 @@ module _ (from to : List ℕ) (count : ℕ) (needs : List Need) (e : pairsOf fro
 no-head : (size : ℕ) {heads : List ℕ} → heads ≡ replicate size 0 → (x : ℕ) → getD heads x 0 ≡ 0
 no-head size e = rw e (zeros-replicate size .zeros)
 
-pub linkable : {from heads next : List ℕ} {count : ℕ} (size : ℕ) → heads ≡ replicate size 0 → count < 65536 → count ≤ length from → count ≤ length next
+pub linkable : {from heads next : List ℕ} {count : ℕ} (size : ℕ) → heads ≡ replicate size 0 → count ≤ needLimit → count ≤ length from → count ≤ length next
     → ((i : ℕ) → i < count → getD from i 0 < size) → Linkable from count heads next
 linkable {from} size e most from-size next-size below =
     record {
       from-size = from-size;
       next-size = next-size;
-      most = most;
+      most = omega arith;
       below = rw (e, length-replicate) below;
       empty = λ i h. no-head size e (getD from i 0);
     }
@@ -96,20 +85,21 @@ linkable {from} size e most from-size next-size below =
 -- The chains of one side, from cleared heads on.
 module _ {from to next₀ heads₀ heads next : List ℕ} {count : ℕ} (n : ℕ) (e : heads₀ ≡ replicate n 0) (l : Linked 0 from count heads₀ next₀ heads next)
     (heads-size : length heads ≡ length heads₀) (from-size : count ≤ length from) (to-size : count ≤ length to) (next-size : count ≤ length next) where
-  chains : (neighbours : ℕ → List ℕ) → ((i : ℕ) → i < count → getD to i 0 < n) → ((x : ℕ) → secondsOf x (pairsOf from to count) ≡ neighbours x)
-      → Chains n neighbours to count heads next
-  chains neighbours below seconds =
+  chains : count ≤ needLimit → (neighbours : ℕ → List ℕ) → ((i : ℕ) → i < count → getD to i 0 < n)
+      → ((x : ℕ) → secondsOf x (pairsOf from to count) ≡ neighbours x) → Chained neighbours n to heads next
+  chains most neighbours below seconds =
+      let size : length heads₀ ≡ n = ap (λ (k : List ℕ). length k) e ∙ length-replicate {A = ℕ} n 0 in
       record {
-        lists =
-            λ x h.
-            targets-seconds from to heads₀ next₀ heads next count from-size to-size l x
-            (omega (arith, ap (λ (k : List ℕ). length k) e, length-replicate {A = ℕ} n 0)) (no-head n e x)
-            ∙ seconds x;
-        heads-within = λ x. l .heads-onward x (no-head n e x) .1;
-        next-onward = λ j h. l .next-onward j (omega arith) h;
-        below = below;
-        others-size = to-size;
+        count = count;
+        most = most;
+        ends-size = to-size;
         next-size = next-size;
+        heads-size = omega arith;
+        ends-below = below;
+        heads-most = λ x h. l .heads-onward x (no-head n e x) .1;
+        next-onward = λ j h. l .next-onward j (omega arith) h;
+        along =
+            λ x h. targets-seconds from to heads₀ next₀ heads next count from-size to-size l x (omega arith) (no-head n e x) ∙ seconds x;
       }
 
 -- Both sides.
@@ -126,31 +116,12 @@ module _ {from to : List ℕ} {count : ℕ} {heads₀ next₀ heads₁ next₁ :
             λ needs e.
             record {
               dependencies =
-                  chains (length heads₀) none-out out heads-out-size (r .from-size) (r .to-size) (omega (arith, r .next-out-size)) (dependenciesOf needs)
+                  chains (length heads₀) none-out out heads-out-size (r .from-size) (r .to-size) (omega (arith, r .next-out-size)) (r .most) (dependenciesOf needs)
                   (r .to-below) (seconds-out from to count needs e);
               dependants =
                   chains (length heads₀) (none-in ∙ ap (λ (k : ℕ). replicate k 0) (r .heads-size)) into heads-in-size (r .to-size) (r .from-size)
-                  (omega (arith, r .next-in-size)) (dependantsOf needs) (r .from-below) (seconds-in from to count needs e);
+                  (omega (arith, r .next-in-size)) (r .most) (dependantsOf needs) (r .from-below) (seconds-in from to count needs e);
             };
         out-rest = out .next-rest;
         in-rest = into .next-rest;
       }
-
--- What chaining asks for is there where the arrays show a graph.
-pub link-room : {words n : ℕ} {graph : List Need} {m : Matrices} {from to : List ℕ} {count : ℕ} {heads-out next-out heads-in next-in : List ℕ}
-    → Shows words n graph m from to count → length heads-out ≡ n → length heads-in ≡ n → count < 65536 → count ≤ length next-out → count ≤ length next-in
-    → LinkRoom from to count heads-out next-out heads-in next-in
-link-room {from = from} {to = to} {count = count} s out-size in-size most next-out-size next-in-size =
-    record {
-      most = most;
-      from-size = omega (arith, s .counted, pairs-most from to count);
-      to-size =
-          let same : length (pairsOf to from count) ≡ length (pairsOf from to count) =
-          ap (λ (l : List Pair). length l) (pairs-swap from to count) ∙ length-map (pairsOf from to count) swap in
-          omega (arith, s .counted, pairs-most to from count);
-      next-out-size = next-out-size;
-      next-in-size = next-in-size;
-      heads-size = in-size ∙ sym out-size;
-      from-below = rw out-size (s .from-below);
-      to-below = rw out-size (s .to-below);
-    }

@@ -9,12 +9,12 @@ use lib.Dec.{eqb, ltb}
 use lib.ListN.{length, getD, set}
 use lib.Pow.{shl-exact}
 use lib.Bits.{bitAnd, bitOr, and-le-l}
-use borrow.Author.Tests.{eqb-true, eqb-false, eq-eqb, ne-eqb, ltb-true, ltb-false}
+use borrow.Author.Tests.{eqb-true, eq-eqb, ne-eqb, ltb-true, ltb-false}
 use Rattle.laws.specs.Lists.{Tested, holds, fails, tested, both, false≢true}
 use Rattle.lists.specs.Bits.{bit, bitAt}
 use Rattle.lists.specs.ArrayLaws.{after-set}
 use Rattle.lists.specs.BitLaws.{bit-or, bit-none, bit-power, bit-less, bit-with, bit-without}
-use Rattle.graph.specs.Rows.{cleared, cell, RowJoined, RowsJoined}
+use Rattle.graph.specs.Rows.{cleared, cell, RowJoined}
 use Rattle.graph.specs.RowLaws.{column, rows-cleared}
 use Rattle.graph.specs.ReachLaws.{own-set}
 use Rattle.graph.specs.Reach.{joins, onward, entersOwn, entersOthers, entersEither, WayEntered, Transposed, AddRoom}

@@ -12,6 +12,7 @@ mod word;
 
 use lists::bits;
 use lists::pairs;
+use project::NodeId;
 
 // Clears the matrices for n items: the graph without needs, with no pair yet. `into` is used, and cleared, only where rows have one word.
 pub fn clear(
@@ -63,21 +64,21 @@ pub fn add_edge(
     count: usize,
     words: usize,
     n: usize,
-    x: u16,
-    y: u16,
+    x: NodeId,
+    y: NodeId,
     weight: u8,
 ) -> usize
-    requires { ⌜ EdgeRoom words n x y (matrices (now seen) (now weak) (now reach) (now into) (now paths)) (now from) (now to) count ⌝ }
+    requires { ⌜ EdgeRoom words n (x .0) (y .0) (matrices (now seen) (now weak) (now reach) (now into) (now paths)) (now from) (now to) count ⌝ }
     ensures { λ r. ⌜
-        EdgeAdded words n x y weight
+        EdgeAdded words n (x .0) (y .0) weight
         (matrices (now (seen .entry)) (now (weak .entry)) (now (reach .entry)) (now (into .entry)) (now (paths .entry))) (now (from .entry))
         (now (to .entry)) count
         (matrices (now (seen .exit)) (now (weak .exit)) (now (reach .exit)) (now (into .exit)) (now (paths .exit))) (now (from .exit))
         (now (to .exit)) r ⌝ }
 {
-    let a = x as usize;
-    let b = y as usize;
-    let more = pairs::add(seen, from, to, count, 64 * words, x, y);
+    let a = x.0 as usize;
+    let b = y.0 as usize;
+    let more = pairs::add(seen, from, to, count, 64 * words, x.0, y.0);
     set_weight(weak, words, a, b, weight);
     transitives::insert_transitives(paths, reach, into, words, n, a, b);
     more

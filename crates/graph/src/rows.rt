@@ -8,7 +8,7 @@ ghost use Rattle.graph.specs.Rows.{Place, cleared, cell, RowJoined};
 use lists::bits;
 
 // The most words of a row: a bit for each item that there can be.
-pub(crate) const ROW_WORDS: usize = 4;
+pub const ROW_WORDS: usize = 4;
 
 // Whether row a of a matrix holds b.
 pub fn holds(matrix: &[u64], words: usize, a: usize, b: usize) -> bool

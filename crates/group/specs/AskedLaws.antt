@@ -1,23 +1,21 @@
 -- Laws of the needs that a walk asks for: none that lie within ranges, so none of uninjected items of one module. Assumes nothing.
 use Prim.Native.Nat.{ℕ, _<_}
 use native.Mathlib.Omega.{arith}
-use mathlib.Core.Path.{_≡_, refl, sym, ap, subst, fun-ext, _∙_}
+use mathlib.Core.Path.{_≡_, refl, sym, ap, subst, _∙_}
 use mathlib.Core.Bool.{true, false}
 use mathlib.Core.List.{List, [], _∷_, flatMap, List·Memᴰ·tail, List·Memᴰ·not-nil}
 use lib.ListN.{length, length-append}
 use Rattle.rules.specs.Lists.{isEmpty, keep, elem, different, appendNew}
 use Rattle.rules.specs.Project.{Project}
-use Rattle.rules.specs.Walk.{Stop, run}
 use Rattle.rules.specs.Paths.{dependenciesOf, dependantsOf, DependsOn}
-use Rattle.rules.specs.Items.{isInjected, uninjectedRows, Range, rangesFrom, rangeOf, Group, groupOf, kindOf, numbers, sameRange, starts, firstList, ItemState, itemState, opened, findOpen, waiting, preceding, afterPreceding, afterOpen, visitItem, itemList, itemWalk, itemStart}
+use Rattle.rules.specs.Items.{isInjected, uninjectedRows, Range, rangesFrom, rangeOf, Group, groupOf, kindOf, numbers, sameRange, starts, firstList, ItemState, itemState, opened, findOpen, waiting, preceding, afterPreceding, afterOpen, visitItem, itemStart}
 use Rattle.laws.specs.Lists.{_∈_, false≢true, both, Tested, holds, fails, tested, ∈-self, keep-∈}
 use Rattle.laws.specs.Counting.{no-member}
-use Rattle.laws.specs.Splits.{WellFormed, true-inRange, rangeOf-holds, length-kinds, wellFormed}
+use Rattle.laws.specs.Splits.{size, WellFormed, true-inRange, rangeOf-holds, length-kinds, wellFormed}
 use Rattle.laws.specs.ItemWalk.{dependenciesOf-∈, dependantsOf-∈}
 use Rattle.split.specs.declared.Split.{Split}
-use Rattle.stmt.specs.declared.walk.Ending.{Ending}
 use Rattle.lists.specs.Pairs.{chain}
-use Rattle.group.specs.Walking.{EndedOn, GroupWalkable, withNeeds, askedGroup, AskedNeeds, Asked, all-needs, no-need}
+use Rattle.group.specs.Walking.{GroupWalkable, withNeeds, askedGroup, AskedNeeds, Asked, all-needs, no-need}
 
 -- A group whose needs each lie within one range is walked as it is without needs.
 module _ (g : Group) (formed : WellFormed g) (within : (x d : ℕ) → DependsOn (g .needs) x d → sameRange g x d ≡ true) where
@@ -38,7 +36,7 @@ module _ (g : Group) (formed : WellFormed g) (within : (x d : ℕ) → DependsOn
       let q = rangeOf-holds (g .ranges) d x (within d x (dependantsOf-∈ (g .needs) x (k .0))) in
       false≢true (sym (formed .holds-uninjected (rangeOf (g .ranges) d) d (q .0) (q .1) .1) ∙ both {a = isInjected (kindOf g d)} (k .1) .0))
 
-  -- so that every visit is the same, and so is the run,
+  -- so that every visit is the same,
   preceding-same : (x : ℕ) (list placed : List ℕ) (moved : List (ℕ × ℕ)) (before : List ℕ)
       → afterPreceding (withNeeds g []) x list placed moved before ≡ afterPreceding g x list placed moved before
   unfolding afterPreceding waiting dependantsOf different appendNew keep
@@ -65,13 +63,10 @@ module _ (g : Group) (formed : WellFormed g) (within : (x d : ℕ) → DependsOn
           rw (e, visitItem, none-open placed x (dependenciesOf (g .needs) x) moved (λ d m. within x d (dependenciesOf-∈ (g .needs) x m)))
           (after-same x list placed moved)
 
-  run-same : (limit left made : ℕ)
-      → run (itemWalk (withNeeds g [])) limit left made (itemStart (withNeeds g [])) ≡ run (itemWalk g) limit left made (itemStart g)
-  unfolding numbers itemStart firstList starts kindOf
-  run-same limit left made =
-      ap
-      (λ (v : ItemState → ItemState). run (record { ended = itemWalk g .ended; visit = v; list = itemList }) limit left made (itemStart g))
-      (fun-ext visit-same)
+  -- the walk begins with the same state,
+  start-same : itemStart (withNeeds g []) ≡ itemStart g
+  unfolding itemStart firstList starts kindOf numbers
+  start-same = refl
 
   -- and the group without needs is well formed
   formed-same : WellFormed (withNeeds g [])
@@ -124,7 +119,8 @@ module _ {p : Project} {needs next-need : List ℕ} {first-need : ℕ} {modules 
         along = h .needs-own .along;
         few = h .needs-own .few;
         formed = subst WellFormed (sym all-asked) formed;
-        same = λ limit left made. ap (λ (g : Group). run (itemWalk g) limit left made (itemStart g)) all-asked;
+        same = record { sizes = ap size all-asked; visits = λ t. ap (λ (g : Group). visitItem g t) all-asked };
+        first = ap itemStart all-asked;
       }
   asked-needs (no-need e f) =
       record {
@@ -141,12 +137,6 @@ module _ {p : Project} {needs next-need : List ℕ} {first-need : ℕ} {modules 
             };
         few = omega arith;
         formed = formed-same group formed (within e f);
-        same = run-same group formed (within e f);
+        same = record { sizes = refl; visits = visit-same group formed (within e f) };
+        first = start-same group formed (within e f);
       }
-
--- The walk that these needs are laid out for ends as that of the group does.
-pub ends-asked : {p : Project} {modules section next : List ℕ} {head : ℕ} (k : AskedNeeds p modules section next head) (limit left made : ℕ)
-    {entries n : ℕ} {order : List ℕ} {e : Ending}
-    → EndedOn entries (run (itemWalk (askedGroup p modules (k .own))) limit left made (itemStart (askedGroup p modules (k .own)))) n order e
-    → EndedOn entries (run (itemWalk (groupOf p modules)) limit left made (itemStart (groupOf p modules))) n order e
-ends-asked k limit left made {entries} {n} {order} {e} = subst (λ (stop : Stop ItemState). EndedOn entries stop n order e) (k .same limit left made)

@@ -14,10 +14,11 @@ use Rattle.laws.specs.Splits.{wellFormed}
 use Rattle.laws.specs.ItemWalk.{run-finished}
 use Rattle.split.specs.declared.Split.{Split}
 use Rattle.stmt.specs.declared.walk.Ending.{Ending as WalkEnding}
+use Rattle.stmt.specs.Walks.{Ran}
 use Rattle.group.specs.declared.Ending.{Ending}
 use Rattle.layout.specs.Numbers.{Numberable, ItemsNumbered}
 use Rattle.layout.specs.NumberLaws.{numbering-below}
-use Rattle.group.specs.Walking.{EndedOn, GroupWalkable}
+use Rattle.group.specs.Walking.{GroupWalkable}
 use Rattle.group.specs.WalkingLaws.{items-most, items-are}
 use Rattle.group.specs.Written.{Endable}
 use Rattle.group.specs.Sorts.{Sortable, Scratch, Sorted}
@@ -57,7 +58,7 @@ module _ {p : Project} {modules items needs next-need : List ℕ} {first-need : 
         omega (arith, below, row, h .accepted .items-most)
 
     -- the walk ended
-    module _ (left already : ℕ) {entries : ℕ} {order : List ℕ} {e : WalkEnding} (d : EndedOn entries (runOf p modules left already) (s .count) order e)
+    module _ (left already : ℕ) {entries : ℕ} {order : List ℕ} {e : WalkEnding} (d : Ran entries (runOf p modules left already) (s .count) order e)
         (rows-size : length rows ≡ itemLimit) (order-size : length order ≡ itemLimit) where
       pub endable : Endable entries (runOf p modules left already) e order rows (s .count) out «at»
       endable =

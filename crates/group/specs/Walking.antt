@@ -1,35 +1,28 @@
 -- The walk of a group's items from its first list on. Assumes nothing.
-use Prim.Native.Nat.{ℕ, _+_, _*_, _/_, _≤_, _<_}
+use Prim.Native.Nat.{ℕ, _+_, _*_, _/_, _≤_}
 use mathlib.Core.Path.{_≡_}
 use mathlib.Core.List.{List}
 use lib.ListN.{length}
 use Rattle.rules.specs.Project.{Project, Need, itemLimit}
-use Rattle.rules.specs.Walk.{Stop, run}
-use Rattle.rules.specs.Items.{numbering, Group, groupOf, firstList, ItemState, itemWalk, itemStart}
+use Rattle.rules.specs.Items.{numbering, Group, groupOf, firstList, itemStart}
 use Rattle.rules.specs.Calls.{itemListLimit}
 use Rattle.laws.specs.Accepted.{Accepted}
 use Rattle.laws.specs.Splits.{size, WellFormed, Giving}
 use Rattle.split.specs.declared.Split.{Split}
 use Rattle.split.specs.FirstLists.{Listable}
 use Rattle.graph.specs.Rows.{rowWords}
-use Rattle.stmt.specs.declared.walk.ItemWalk.{ItemWalk}
-use Rattle.stmt.specs.declared.walk.Ending.{Ending}
-use Rattle.stmt.specs.declared.walk.Ending.the-variants.{Crowded}
-use Rattle.stmt.specs.Walks.{Laid, Ended}
+use Rattle.stmt.specs.Walks.{Laid, SameVisits}
 use Rattle.layout.specs.Numbers.{ItemsNumbered}
 use Rattle.owners.specs.Owners.{NeedsAlong}
 use Rattle.layout.specs.Needs.{needsAmong, OwnNeeds}
 
--- How a walk of n items ends on an array of so many entries: as the definition's run does, or where they are fewer than the limit, before a visit for
--- which they may be too few.
-pub data EndedOn (entries : ℕ) (stop : Stop ItemState) (n : ℕ) (order : List ℕ) : Ending → Type 0 where
-  has-ended : {e : Ending} → Ended stop n order e → EndedOn entries stop n order e
-  was-crowded : {w : ItemWalk} {made : ℕ} → entries < itemListLimit → EndedOn entries stop n order (Crowded w made)
-
--- What it asks for: the group laid out, its starts, and arrays for the walk's state, the list's of any size.
-pub record Walkable (g : Group) (to heads-out next-out from heads-in next-in paths weak kinds low high starts : List ℕ) (s : Split) (words : ℕ)
+-- What it asks for: a group laid out whose first state and visits are those of the group to be walked, its starts, and arrays for the walk's state, the
+-- list's of any size.
+pub record Walkable (g walked : Group) (to heads-out next-out from heads-in next-in paths weak kinds low high starts : List ℕ) (s : Split) (words : ℕ)
     (placed moved «open» order : List ℕ) : Type 0 where
   pub laid : Laid g to heads-out next-out from heads-in next-in paths weak kinds low high (64 * words)
+  pub same : SameVisits g walked
+  pub first : itemStart g ≡ itemStart walked
   pub listable : Listable g low high starts s (firstList g)
   pub count-is : s .count ≡ size g
   pub uninjected-most : s .uninjected ≤ s .count
@@ -54,15 +47,15 @@ withNeeds g needs = record { kinds = g .kinds; ranges = g .ranges; needs = needs
 abbrev pub askedGroup : Project → List ℕ → List Need → Group
 askedGroup p modules own = withNeeds (groupOf p modules) (needsAmong (numbering p modules) own)
 
--- Along the chain from `head` stand the needs that the walk of modules' items asks for: with these alone it stops as it does with all.
+-- Along the chain from `head` stand the needs that the walk of modules' items asks for: with these alone it begins as it does with all, and every visit
+-- is the same.
 pub record AskedNeeds (p : Project) (modules section next : List ℕ) (head : ℕ) : Type 0 where
   pub own : List Need
   pub along : NeedsAlong section next head own
   pub few : length own ≤ length (p .needs)
   pub formed : WellFormed (askedGroup p modules own)
-  pub same : (limit left made : ℕ)
-      → run (itemWalk (askedGroup p modules own)) limit left made (itemStart (askedGroup p modules own))
-      ≡ run (itemWalk (groupOf p modules)) limit left made (itemStart (groupOf p modules))
+  pub same : SameVisits (askedGroup p modules own) (groupOf p modules)
+  pub first : itemStart (askedGroup p modules own) ≡ itemStart (groupOf p modules)
 
 -- Where that chain begins: where that of all needs does, or nowhere for uninjected items of one module.
 pub data Asked (first-need modules : ℕ) (s : Split) : ℕ → Type 0 where

@@ -1,126 +1,76 @@
 -- Laws of the walk of a group's items from its first list on. Assumes nothing.
-use Prim.Native.Nat.{ℕ, _+_, _*_, _-_, _≤_}
+use Prim.Native.Nat.{ℕ, _*_, _≤_}
 use native.Mathlib.Omega.{arith}
 use native.Mathlib.Nat.{mul-le-mul}
-use mathlib.Core.Path.{_≡_, refl, sym, ap, subst, _∙_}
-use mathlib.Core.List.{List, []}
+use mathlib.Core.Path.{_≡_, sym, subst, _∙_}
+use mathlib.Core.List.{List}
 use lib.ListN.{length, take}
-use Rattle.rules.specs.Lists.{any, elem}
 use Rattle.rules.specs.Project.{Project, Need, itemLimit}
 use Rattle.rules.specs.Walk.{run}
-use Rattle.rules.specs.Items.{starts as startsOf, numbers as numbersIn, firstList, groupOf, kindOf, pathHolds, weightOf, Group, hasMoved, ItemState, itemList, placedOf, itemWalk, itemStart}
-use Rattle.rules.specs.Calls.{itemListLimit}
+use Rattle.rules.specs.Items.{starts as startsOf, numbers as numbersIn, firstList, groupOf, kindOf, pathHolds, Group, ItemState, itemWalk, itemStart}
 use Rattle.laws.specs.Splits.{size, length-kinds, length-numbering}
 use Rattle.laws.specs.FirstList.{firstList-limit}
 use Rattle.laws.specs.ItemWalk.{walked-start}
-use Rattle.lists.specs.Bits.{bitAt}
-use Rattle.lists.specs.Stacks.{stack}
 use Rattle.split.specs.declared.Split.{Split}
 use Rattle.split.specs.Shown.{Kinds, Ranges}
-use Rattle.split.specs.FirstLists.{Listable, FirstListed}
+use Rattle.split.specs.FirstLists.{Listable}
 use Rattle.split.specs.SplitLaws.{numbering-parts}
 use Rattle.split.specs.CallerLaws.{listable}
-use Rattle.graph.specs.Rows.{rowWords, Rows, cleared}
-use Rattle.graph.specs.RowLaws.{rows-cleared}
-use Rattle.graph.specs.Graph.{matrices, isMaybe}
+use Rattle.graph.specs.Rows.{Rows}
+use Rattle.graph.specs.Graph.{matrices}
 use Rattle.stmt.specs.declared.walk.ItemWalk.{ItemWalk}
 use Rattle.stmt.specs.declared.walk.Ending.{Ending}
-use Rattle.stmt.specs.Walks.{Laid, Row, Table, movedOf, Walking, Ran, has-ended, was-crowded}
+use Rattle.stmt.specs.Walks.{Laid, Walking, Startable, Started, Ran}
 use Rattle.layout.specs.Needs.{needsAmong}
 use Rattle.layout.specs.Layout.{LayRoom, NeedsLaid}
-use Rattle.group.specs.Walking.{EndedOn, has-ended as ended-so, was-crowded as crowded-so, Walkable, GroupWalkable, withNeeds, askedGroup, AskedNeeds, wordsFor, Sized, WalkScratch}
+use Rattle.group.specs.Walking.{Walkable, GroupWalkable, withNeeds, askedGroup, AskedNeeds, wordsFor, Sized, WalkScratch}
 
--- What a run comes to, by the size of its list's array.
-pub ends-on : {g : Group} {to heads-out next-out from heads-in next-in paths weak kinds low high : List ℕ} {width n allowance already : ℕ}
-    {first : ItemState} {placed moved «open» order list : List ℕ} {entries : ℕ} {e : Ending} → length list ≡ entries
-    → Ran g to heads-out next-out from heads-in next-in paths weak kinds low high width n allowance already first placed moved «open» order list e
-    → EndedOn entries (run (itemWalk g) itemListLimit (allowance - already) already first) n order e
-ends-on size (has-ended d) = ended-so d
-ends-on size (was-crowded short h r) = crowded-so (omega arith)
-
--- A cleared row has no bit, and a cleared table no pair.
-row-none : (n : ℕ) (placed : List ℕ) → n ≤ 64 * rowWords → length placed ≡ rowWords → {placed′ : List ℕ} → placed′ ≡ cleared rowWords placed
-    → length placed′ ≡ length placed → Row n placed′ (λ x. elem x [])
-unfolding elem
-row-none n placed h full e same =
-    record {
-      size = omega arith;
-      bits =
-          λ a g.
-          let k : 0 * (64 * rowWords) + a ≡ a = omega arith in
-          ap (λ (l : List ℕ). bitAt l a) e
-          ∙ (rw k at (rows-cleared rowWords 1 placed 0 a (omega arith) (omega arith)));
-    }
-
-table-none : {n : ℕ} (words : ℕ) (moved : List ℕ) → n ≤ 64 * words → 64 * words ≤ itemLimit → n * words ≤ length moved → {moved′ : List ℕ}
-    → moved′ ≡ cleared (n * words) moved → length moved′ ≡ length moved → Table n (64 * words) moved′ (hasMoved [])
-unfolding hasMoved any
-table-none {n} words moved h most room e same =
-    record {
-      within = h;
-      most = most;
-      size = omega arith;
-      bits = λ a b f g. rw e (rows-cleared words n moved a b f (omega arith));
-    }
-
-module _ {g : Group} {to heads-out next-out from heads-in next-in paths weak kinds low high starts : List ℕ} {s : Split} {words : ℕ}
+module _ {g walked : Group} {to heads-out next-out from heads-in next-in paths weak kinds low high starts : List ℕ} {s : Split} {words : ℕ}
     {placed moved «open» order : List ℕ}
-    (h : Walkable g to heads-out next-out from heads-in next-in paths weak kinds low high starts s words placed moved «open» order) where
+    (h : Walkable g walked to heads-out next-out from heads-in next-in paths weak kinds low high starts s words placed moved «open» order) where
   count-most : s .count ≤ itemLimit
   count-most = omega (arith, h .count-is, h .laid .paths-shown .within, h .laid .paths-shown .most)
 
-  pub product-most : s .count * words ≤ itemLimit * rowWords
-  product-most =
-      let few : words ≤ rowWords = omega (arith, h .laid .paths-shown .most) in
-      mul-le-mul count-most few
-
-  pub clearable : s .count * words ≤ length moved
-  clearable = rw (h .count-is) (h .moved-size)
-
-  -- an array in which the first list fits
-  pub listable-on : {list : List ℕ} → length (firstList g) ≤ length list → Listable g low high starts s list
-  listable-on fits =
+  -- with an array in which the first list fits
+  pub startable : {list : List ℕ} → length (firstList g) ≤ length list → Startable g low high starts s words placed moved list
+  startable fits =
       let l = h .listable in
       record {
-        ranges-shown = l .ranges-shown;
-        starts-shown = l .starts-shown;
-        starts-below = l .starts-below;
-        injected-behind = l .injected-behind;
-        most = l .most;
-        room = fits;
+        listable =
+            record {
+              ranges-shown = l .ranges-shown;
+              starts-shown = l .starts-shown;
+              starts-below = l .starts-below;
+              injected-behind = l .injected-behind;
+              most = l .most;
+              room = fits;
+            };
+        count-is = h .count-is;
+        first-most = h .first-most;
+        within = h .laid .paths-shown .within;
+        most = h .laid .paths-shown .most;
+        placed-size = omega (arith, h .placed-size, h .laid .paths-shown .most);
+        moved-size = h .moved-size;
       }
 
   -- the first state of the walk
-  pub walking-first : {list placed′ moved′ list′ : List ℕ} {w : ItemWalk} {end : ℕ} → length (firstList g) ≤ length list → placed′ ≡ cleared rowWords placed → length placed′ ≡ length placed
-      → moved′ ≡ cleared (s .count * words) moved → length moved′ ≡ length moved → FirstListed g list list′ end → length list′ ≡ length list
-      → w ≡ record { end = end; placed = 0 }
+  pub walking-first : {placed′ moved′ list′ : List ℕ} {w : ItemWalk} → Started g (64 * words) placed′ moved′ list′ w
       → Walking g to heads-out next-out from heads-in next-in paths weak kinds low high (64 * words) placed′ moved′ «open» order list′ w (itemStart g)
-  unfolding itemStart itemList placedOf movedOf stack
-  walking-first fits e placed-same f moved-same l list-same start =
+  walking-first first =
       record {
         laid = h .laid;
         room = omega (arith, h .count-is, count-most, h .open-size);
-        shows =
-            rw start
-            (record {
-              entries =
-                  record {
-                    shown = l .shown;
-                    within = omega (arith, l .count, h .first-most);
-                    held = omega (arith, l .count);
-                  };
-              items =
-                  record {
-                    bits = row-none (size g) placed (omega (arith, h .count-is, count-most)) (h .placed-size) e placed-same;
-                    shown = refl;
-                    size = omega (arith, h .count-is, count-most, h .order-size);
-                  };
-              pairs =
-                  table-none words moved (h .laid .paths-shown .within) (h .laid .paths-shown .most) (h .moved-size)
-                  (f ∙ ap (λ (n : ℕ). cleared (n * words) moved) (h .count-is)) moved-same;
-            });
+        shows = first order (omega (arith, h .count-is, count-most, h .order-size));
         walked = walked-start g (h .laid .formed);
       }
+
+  -- and the run from there on, by the size of the list's array
+  pub ran-walked : (limit left made : ℕ) {entries₀ entries n : ℕ} {order′ : List ℕ} {e : Ending} → entries₀ ≡ entries
+      → Ran entries₀ (run (itemWalk walked) limit left made (itemStart g)) n order′ e
+      → Ran entries (run (itemWalk walked) limit left made (itemStart walked)) n order′ e
+  ran-walked limit left made {entries₀ = entries₀} {n = n} {order′} {e} same r =
+      subst (λ (k : ℕ). Ran k (run (itemWalk walked) limit left made (itemStart walked)) n order′ e) same
+      (subst (λ (t : ItemState). Ran entries₀ (run (itemWalk walked) limit left made t) n order′ e) (h .first) r)
 
 matrix-rows : (n most : ℕ) (matrix : List ℕ) → n ≤ most → most ≤ itemLimit → Sized most matrix → Rows (wordsFor n) n matrix
 matrix-rows n most matrix h g e =
@@ -190,7 +140,7 @@ module _ {p : Project} {needs next-need : List ℕ} {first-need : ℕ} {modules 
         (l : NeedsLaid (s .count) (needsAmong (take (s .count) rows) (k .own)) to′ heads-out′ next-out′ from′ heads-in′ next-in′ paths′ weak′
         (64 * wordsFor (s .count))) where
       group-laid : Laid group to′ heads-out′ next-out′ from′ heads-in′ next-in′ paths′ weak′ kinds low high (64 * wordsFor (s .count))
-      unfolding pathHolds weightOf isMaybe
+      unfolding pathHolds
       group-laid =
           let j : NeedsLaid (size group) (group .needs) to′ heads-out′ next-out′ from′ heads-in′ next-in′ paths′ weak′ (64 * wordsFor (s .count)) =
           subst
@@ -210,7 +160,7 @@ module _ {p : Project} {needs next-need : List ℕ} {first-need : ℕ} {modules 
           }
 
       pub walkable : {moved′ part : List ℕ} → length moved′ ≡ length moved → part ≡ take (length modules) starts
-          → Walkable group to′ heads-out′ next-out′ from′ heads-in′ next-in′ paths′ weak′ kinds low high part s (wordsFor (s .count))
+          → Walkable group (groupOf p modules) to′ heads-out′ next-out′ from′ heads-in′ next-in′ paths′ weak′ kinds low high part s (wordsFor (s .count))
           placed moved′ «open» order
       unfolding firstList startsOf kindOf numbersIn
       walkable same e =
@@ -218,6 +168,8 @@ module _ {p : Project} {needs next-need : List ℕ} {first-need : ℕ} {modules 
           listable (h .accepted) (h .giving) (h .numbered .splits) e (omega arith) in
           record {
             laid = group-laid;
+            same = k .same;
+            first = k .first;
             listable =
                 record {
                   ranges-shown = ranges-kept;

@@ -15,10 +15,8 @@ use Rattle.lists.specs.Stacks.{stack}
 use Rattle.lists.specs.StackLaws.{stack-length, stack-reverse}
 use Rattle.stmt.specs.declared.walk.Ending.{Ending as WalkEnding}
 use Rattle.stmt.specs.declared.walk.Ending.the-variants.{Finished as WalkFinished, Spent as WalkSpent, Full as WalkFull, Crowded as WalkCrowded}
-use Rattle.stmt.specs.declared.walk.ItemWalk.{ItemWalk}
-use Rattle.stmt.specs.Walks.{Ended, has-finished as walk-finished, was-spent as walk-spent, list-was-full}
+use Rattle.stmt.specs.Walks.{Ended, has-finished as walk-finished, was-spent as walk-spent, list-was-full, Ran, has-ended, was-crowded as walk-crowded}
 use Rattle.group.specs.declared.Ending.the-variants.{Finished, Spent, Full, Crowded}
-use Rattle.group.specs.Walking.{EndedOn, has-ended, was-crowded as walk-crowded}
 use Rattle.group.specs.Written.{rowsOf, WriteRoom, Endable}
 use Rattle.group.specs.Sorts.{Sorted, has-finished, was-spent, was-full, was-crowded}
 
@@ -39,34 +37,35 @@ module _ (rows order out : List ℕ) (n «at» j : ℕ) where
 
 -- What the walk's ending says.
 module _ {entries : ℕ} {stop : Stop ItemState} {n made : ℕ} {order : List ℕ} {e : WalkEnding} where
-  walk-has-finished : e ≡ WalkFinished made → EndedOn entries stop n order e
+  walk-has-finished : e ≡ WalkFinished made → Ran entries stop n order e
       → (s : ItemState) × (stop ≡ finished s made) × (stack order n ≡ placedOf s)
-  walk-has-finished f h = go (subst (EndedOn entries stop n order) f h)
+  walk-has-finished f h = go (subst (Ran entries stop n order) f h)
     where
-      go : EndedOn entries stop n order (WalkFinished made) → (s : ItemState) × (stop ≡ finished s made) × (stack order n ≡ placedOf s)
+      go : Ran entries stop n order (WalkFinished made) → (s : ItemState) × (stop ≡ finished s made) × (stack order n ≡ placedOf s)
       go (has-ended (walk-finished s a b)) = (s, a, b)
 
-  walk-was-spent : e ≡ WalkSpent made → EndedOn entries stop n order e → stop ≡ spent made
-  walk-was-spent f h = go (subst (EndedOn entries stop n order) f h)
+  walk-was-spent : e ≡ WalkSpent made → Ran entries stop n order e → stop ≡ spent made
+  walk-was-spent f h = go (subst (Ran entries stop n order) f h)
     where
-      go : EndedOn entries stop n order (WalkSpent made) → stop ≡ spent made
+      go : Ran entries stop n order (WalkSpent made) → stop ≡ spent made
       go (has-ended (walk-spent a)) = a
 
-  walk-was-full : e ≡ WalkFull made → EndedOn entries stop n order e → stop ≡ full made
-  walk-was-full f h = go (subst (EndedOn entries stop n order) f h)
+  walk-was-full : e ≡ WalkFull made → Ran entries stop n order e → stop ≡ full made
+  walk-was-full f h = go (subst (Ran entries stop n order) f h)
     where
-      go : EndedOn entries stop n order (WalkFull made) → stop ≡ full made
+      go : Ran entries stop n order (WalkFull made) → stop ≡ full made
       go (has-ended (list-was-full a)) = a
 
-  walk-was-crowded : {w : ItemWalk} → e ≡ WalkCrowded w made → EndedOn entries stop n order e → entries < itemListLimit
-  walk-was-crowded {w} f h = go (subst (EndedOn entries stop n order) f h)
-    where
-      none : Ended stop n order (WalkCrowded w made) → ⊥
-      none = elim [ ]
+walk-was-crowded : {entries : ℕ} {stop : Stop ItemState} {n : ℕ} {order : List ℕ} {e : WalkEnding} → e ≡ WalkCrowded → Ran entries stop n order e
+    → entries < itemListLimit
+walk-was-crowded {entries} {stop} {n} {order} f h = go (subst (Ran entries stop n order) f h)
+  where
+    none : Ended stop n order WalkCrowded → ⊥
+    none = elim [ ]
 
-      go : EndedOn entries stop n order (WalkCrowded w made) → entries < itemListLimit
-      go (has-ended d) = absurd (none d)
-      go (walk-crowded h) = h
+    go : Ran entries stop n order WalkCrowded → entries < itemListLimit
+    go (has-ended d) = absurd (none d)
+    go (walk-crowded h) = h
 
 -- Two functions that agree on the members of a list make one list of it.
 map-members : (f g : ℕ → ℕ) (l : List ℕ) → ((x : ℕ) → x ∈ l → f x ≡ g x) → map f l ≡ map g l
@@ -74,6 +73,11 @@ map-members f g [] h = refl
 map-members f g (x ∷ l) h = rw (h x ∈-self, map-members f g l (λ y m. h y (List·Memᴰ·tail m)))
 
 -- A walk that has ended, and its order as rows.
+module _ {entries : ℕ} {stop : Stop ItemState} {e : WalkEnding} {order rows : List ℕ} {n : ℕ} {out : List ℕ} {«at» : ℕ}
+    (h : Endable entries stop e order rows n out «at») where
+  pub ends-crowded : e ≡ WalkCrowded → Sorted entries (orderOf (take n rows) stop) «at» out out Crowded
+  ends-crowded f = was-crowded (walk-was-crowded f (h .ended)) refl
+
 module _ {entries : ℕ} {stop : Stop ItemState} {e : WalkEnding} {order rows : List ℕ} {n : ℕ} {out : List ℕ} {«at» : ℕ}
     (h : Endable entries stop e order rows n out «at») {made : ℕ} where
   pub ends-spent : e ≡ WalkSpent made → Sorted entries (orderOf (take n rows) stop) «at» out out (Spent made)
@@ -83,9 +87,6 @@ module _ {entries : ℕ} {stop : Stop ItemState} {e : WalkEnding} {order rows : 
   pub ends-full : e ≡ WalkFull made → Sorted entries (orderOf (take n rows) stop) «at» out out (Full made)
   unfolding orderOf
   ends-full f = was-full (ap (orderOf (take n rows)) (walk-was-full f (h .ended))) refl
-
-  pub ends-crowded : {w : ItemWalk} → e ≡ WalkCrowded w made → Sorted entries (orderOf (take n rows) stop) «at» out out Crowded
-  ends-crowded f = was-crowded (walk-was-crowded f (h .ended)) refl
 
   module _ (f : e ≡ WalkFinished made) where
     last : (s : ItemState) × (stop ≡ finished s made) × (stack order n ≡ placedOf s)

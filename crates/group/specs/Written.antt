@@ -8,7 +8,7 @@ use Rattle.rules.specs.Walk.{Stop, finished}
 use Rattle.rules.specs.Items.{ItemState, placedOf}
 use Rattle.laws.specs.Counting.{Below}
 use Rattle.stmt.specs.declared.walk.Ending.{Ending}
-use Rattle.group.specs.Walking.{EndedOn}
+use Rattle.stmt.specs.Walks.{Ran}
 
 -- the rows of n numbers
 abbrev pub rowsOf : List ℕ → List ℕ → List ℕ
@@ -24,7 +24,7 @@ pub record WriteRoom (order rows : List ℕ) (n : ℕ) (out : List ℕ) («at» 
 
 -- A walk over n numbers has ended on an array of so many entries: what giving its order as rows relies on. Where it has finished, it has placed numbers below n.
 pub record Endable (entries : ℕ) (stop : Stop ItemState) (e : Ending) (order rows : List ℕ) (n : ℕ) (out : List ℕ) («at» : ℕ) : Type 0 where
-  pub ended : EndedOn entries stop n order e
+  pub ended : Ran entries stop n order e
   pub rows-size : n ≤ length rows
   pub order-size : n ≤ length order
   pub numbers-below : (s : ItemState) (made : ℕ) → stop ≡ finished s made → Below n (placedOf s)

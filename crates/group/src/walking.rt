@@ -7,17 +7,13 @@ ghost use Rattle.rules.specs.Project.{Project};
 ghost use Rattle.rules.specs.Items.{Group, groupOf, firstList, itemWalk, itemStart};
 ghost use Rattle.rules.specs.Calls.{itemListLimit};
 ghost use Rattle.split.specs.FirstLists.{Listable};
-ghost use Rattle.group.specs.Walking.{EndedOn, Walkable, GroupWalkable, Asked, WalkScratch};
-use graph::rows;
+ghost use Rattle.stmt.specs.Walks.{Ran};
+ghost use Rattle.group.specs.Walking.{Walkable, GroupWalkable, Asked, WalkScratch};
 use layout::lay_needs;
 use split::Split;
-use split::first_list;
 use stmt::walk::Ending;
 use stmt::walk::ItemWalk;
 use stmt::walk::run;
-
-// The words of a row of bits for all items.
-const ITEM_WORDS: usize = 4;
 
 // The length of a group's first list: its starts, the ranges that hold them and the injected items.
 fn first_len(low: &[u16], high: &[u16], starts: &[u16], s: Split) -> usize
@@ -36,8 +32,9 @@ fn first_len(low: &[u16], high: &[u16], starts: &[u16], s: Split) -> usize
     n
 }
 
-// Walks the items of a group from its first list on, as the definition's run does, unless the list may not fit its array. Where it has finished, `order`
-// holds the numbers in their order; else it is left free, and so is the rest of the state.
+// Walks the items of a group from its first list on, as the definition's run does, unless the list may not fit its array. The group that is laid out may
+// have fewer needs than the one that is walked, where every visit is the same. Where it has finished, `order` holds the numbers in their order; else it is
+// left free, and so is the rest of the state.
 fn walk_items(
     to: &[u16],
     heads_out: &[u16],
@@ -62,24 +59,19 @@ fn walk_items(
     already: u32,
 ) -> Ending
     requires { ⌜ already ≤ allowance ⌝ }
-    requires { ⌜ ((g : Group) × Walkable g (now to) (now «heads_out») (now «next_out») (now from) (now «heads_in») (now «next_in») (now paths)
+    requires { ⌜ ((g : Group) × (walked : Group) × Walkable g walked (now to) (now «heads_out») (now «next_out») (now from) (now «heads_in») (now «next_in») (now paths)
         (now weak) (now kinds) (now low) (now high) (now starts) s words (now placed) (now moved) (now «open») (now order)) ⌝ }
-    ensures { λ r. ⌜ ((g : Group) → Walkable g (now (to .entry)) (now («heads_out» .entry)) (now («next_out» .entry)) (now (from .entry))
+    ensures { λ r. ⌜ ((g walked : Group) → Walkable g walked (now (to .entry)) (now («heads_out» .entry)) (now («next_out» .entry)) (now (from .entry))
         (now («heads_in» .entry)) (now («next_in» .entry)) (now (paths .entry)) (now (weak .entry)) (now (kinds .entry)) (now (low .entry))
         (now (high .entry)) (now (starts .entry)) s words (now (placed .entry)) (now (moved .entry)) (now («open» .entry)) (now (order .entry))
-        → EndedOn (length (now (list .entry))) (runs (itemWalk g) itemListLimit (allowance - already) already (itemStart g)) (s .count)
+        → Ran (length (now (list .entry))) (runs (itemWalk walked) itemListLimit (allowance - already) already (itemStart walked)) (s .count)
         (now (order .exit)) r) ⌝ }
 {
     let first = first_len(low, high, starts, s);
     if list.len() < first {
-        // No caller goes on from this state.
-        return Ending::Crowded(ItemWalk::new(0), already);
+        return Ending::Crowded;
     }
-    let n = s.count;
-    rows::clear_words(placed, ITEM_WORDS);
-    rows::clear_words(moved, n * words);
-    let end = first_list(low, high, starts, s, list);
-    let start = ItemWalk::new(end);
+    let start = ItemWalk::new(low, high, starts, s, words, placed, moved, list);
     run(
         to,
         heads_out,
@@ -98,7 +90,7 @@ fn walk_items(
         open,
         order,
         list,
-        n,
+        s.count,
         start,
         allowance,
         already,
@@ -161,7 +153,7 @@ pub fn walk_group(
         → WalkScratch (length (p .items)) (length (p .needs)) (now (seen .entry)) (now (weak .entry)) (now (reach .entry)) (now (paths .entry))
         (now (moved .entry)) (now (placed .entry)) (now (from .entry)) (now (to .entry)) (now («next_out» .entry)) (now («next_in» .entry))
         (now («heads_out» .entry)) (now («heads_in» .entry)) (now («open» .entry)) (now (order .entry))
-        → EndedOn (length (now (list .entry))) (runs (itemWalk (groupOf p (now (modules .entry)))) itemListLimit (allowance - already) already
+        → Ran (length (now (list .entry))) (runs (itemWalk (groupOf p (now (modules .entry)))) itemListLimit (allowance - already) already
         (itemStart (groupOf p (now (modules .entry))))) (s .count) (now (order .exit)) r) ⌝ }
 {
     let n = s.count;

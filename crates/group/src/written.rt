@@ -43,6 +43,6 @@ pub fn end_sort(
             write_rows(order, rows, n, out, at);
             Ending::Finished(at + n, made)
         }
-        walk::Ending::Crowded(_, _) => Ending::Crowded,
+        walk::Ending::Crowded => Ending::Crowded,
     }
 }

@@ -6,8 +6,8 @@ use lib.ListN.{length}
 use Rattle.rules.specs.Project.{Need, itemLimit, needLimit}
 use Rattle.rules.specs.Paths.{dependenciesOf, dependantsOf, inPaths}
 use Rattle.graph.specs.Rows.{Rows}
-use Rattle.graph.specs.Graph.{Matrices, Space, isMaybe}
-use Rattle.stmt.specs.Walks.{Table, Chained}
+use Rattle.graph.specs.Graph.{Matrices, Space, isMaybe, Chained}
+use Rattle.stmt.specs.Walks.{Table}
 
 -- What laying out needs of n items asks for.
 pub record LayRoom (words n : ℕ) (needs : List Need) (m : Matrices) (from to heads-out next-out heads-in next-in : List ℕ) : Type 0 where

@@ -1,5 +1,5 @@
 -- Laws of a group's needs laid out for its walk. Assumes nothing.
-use Prim.Native.Nat.{ℕ, _*_, _≤_, _<_}
+use Prim.Native.Nat.{ℕ, _*_, _≤_}
 use native.Mathlib.Omega.{arith}
 use mathlib.Core.Path.{_≡_, refl, sym, ap, _∙_}
 use mathlib.Core.Bool.{Bool}
@@ -7,7 +7,7 @@ use mathlib.Core.List.{List, [], _++_, map, zipWith, reverse, reverse-reverse}
 use lib.ListN.{length, take, drop, length-append, length-map, length-reverse, List·getD-append}
 use lib.Seq.{length-take-le}
 use Rattle.rules.specs.Lists.{keep}
-use Rattle.rules.specs.Project.{Need, needLimit}
+use Rattle.rules.specs.Project.{Need, itemLimit, needLimit}
 use Rattle.rules.specs.Items.{isAmong, numbered}
 use Rattle.laws.specs.Lists.{length-parts}
 use Rattle.rules.specs.Paths.{weightIn, inPaths}
@@ -16,9 +16,9 @@ use Rattle.lists.specs.ChainLaws.{chain-end}
 use Rattle.owners.specs.Owners.{needAt, NeedsAlong}
 use Rattle.graph.specs.Rows.{Rows, cleared, Holds}
 use Rattle.graph.specs.RowLaws.{rows-sized, rows-cleared}
-use Rattle.graph.specs.Graph.{Matrices, ends, isMaybe, Shows, Cleared, Chains, LinkRoom, LinksMade}
+use Rattle.graph.specs.Graph.{Matrices, ends, isMaybe, Shows, Cleared, Chained, LinkRoom, LinksMade}
 use Rattle.graph.specs.GraphLaws.{shows-count}
-use Rattle.stmt.specs.Walks.{Table, Chained}
+use Rattle.stmt.specs.Walks.{Table}
 use Rattle.layout.specs.Needs.{needsAmong, NeedsRoom}
 use Rattle.layout.specs.Layout.{LayRoom, NoneRoom, NeedsLaid}
 
@@ -37,21 +37,25 @@ table {words} {n} r h =
       bits = λ a b f g. h a b f (omega (arith, r .numbers));
     }
 
--- Chains of the neighbours of n items, whose heads are the first of an array.
-chained : {n : ℕ} {neighbours : ℕ → List ℕ} {others heads next : List ℕ} {count : ℕ} (rest : List ℕ) → length heads ≡ n → count ≤ needLimit
-    → Chains n neighbours others count heads next → Chained neighbours n others (heads ++ rest) next
-chained {heads = heads} {count = count} rest heads-size most c =
+-- Chains of the neighbours of n items, with more heads behind theirs.
+chained-more : {n : ℕ} {neighbours : ℕ → List ℕ} {ends heads next : List ℕ} (rest : List ℕ) → length heads ≡ n
+    → Chained neighbours n ends heads next → Chained neighbours n ends (heads ++ rest) next
+chained-more {heads = heads} rest heads-size c =
     record {
-      count = count;
-      most = most;
-      ends-size = c .others-size;
+      count = c .count;
+      most = c .most;
+      ends-size = c .ends-size;
       next-size = c .next-size;
       heads-size = omega (arith, length-append heads rest);
-      ends-below = c .below;
-      heads-most = λ x g. rw (List·getD-append heads rest 0 x (omega arith)) (c .heads-within x);
+      ends-below = c .ends-below;
+      heads-most = λ x g. rw (List·getD-append heads rest 0 x (omega arith)) (c .heads-most x g);
       next-onward = c .next-onward;
-      along = λ x g. rw (List·getD-append heads rest 0 x (omega arith)) (c .lists x g);
+      along = λ x g. rw (List·getD-append heads rest 0 x (omega arith)) (c .along x g);
     }
+
+-- The first n of as many heads as there can be items.
+pub first-heads : {n : ℕ} (heads : List ℕ) → n ≤ itemLimit → length heads ≡ itemLimit → length (take n heads) ≡ n
+first-heads {n} heads most size = length-take-le n heads (omega arith)
 
 -- No needs.
 pub none-along : {section next : List ℕ} {head : ℕ} {own : List Need} → NeedsAlong section next head own → head ≡ 0 → own ≡ []
@@ -59,10 +63,10 @@ none-along {section} {next} a e = sym (a .along) ∙ ap (map (needAt section)) (
 
 module _ {words n : ℕ} {weak paths heads-out heads-in : List ℕ} (room : NoneRoom words n weak paths heads-out heads-in) where
   pub out-none : length (take n heads-out) ≡ n
-  out-none = length-take-le n heads-out (omega (arith, room .most, room .heads-out-size))
+  out-none = first-heads heads-out (room .most) (room .heads-out-size)
 
   pub in-none : length (take n heads-in) ≡ n
-  in-none = length-take-le n heads-in (omega (arith, room .most, room .heads-in-size))
+  in-none = first-heads heads-in (room .most) (room .heads-in-size)
 
   pub linkable-none : {from to next-out next-in : List ℕ} → LinkRoom from to 0 (take n heads-out) next-out (take n heads-in) next-in
   linkable-none =
@@ -86,8 +90,8 @@ module _ {words n : ℕ} {weak paths heads-out heads-in : List ℕ} (room : None
   laid-none {weak′} {paths′} e weak-same f paths-same a b l =
       let k = rw out-none at (l .neighbours [] refl) in
       record {
-        dependencies = chained (drop n heads-out) (a ∙ out-none) (omega arith) (k .dependencies);
-        dependants = chained (drop n heads-in) (b ∙ in-none) (omega arith) (k .dependants);
+        dependencies = chained-more (drop n heads-out) (a ∙ out-none) (k .dependencies);
+        dependants = chained-more (drop n heads-in) (b ∙ in-none) (k .dependants);
         paths-shown = table (rows-sized paths paths′ (room .paths-rows) paths-same) (rw f (rows-cleared words n paths));
         weak-shown = table (rows-sized weak weak′ (room .weak-rows) weak-same) (rw e (rows-cleared words n weak));
       }
@@ -155,8 +159,8 @@ module _ {words n : ℕ} {needs : List Need} {m : Matrices} {from to heads-out n
         (l .neighbours (needsAmong rows needs)
         (s .pairs ∙ ap (λ (d : List Need). differentPairs (map ends d)) (reverse-reverse (needsAmong rows needs)))) in
         record {
-          dependencies = chained (drop n heads-out) (a ∙ out-heads) most-pairs (k .dependencies);
-          dependants = chained (drop n heads-in) (b ∙ in-heads) most-pairs (k .dependants);
+          dependencies = chained-more (drop n heads-out) (a ∙ out-heads) (k .dependencies);
+          dependants = chained-more (drop n heads-in) (b ∙ in-heads) (k .dependants);
           paths-shown = table (s .space .paths-rows) (s .in-paths);
           weak-shown = table (s .space .weak-rows) (s .weights);
         }

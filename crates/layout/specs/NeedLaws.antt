@@ -1,8 +1,8 @@
 -- Laws of adding a group's needs. Assumes nothing.
-use Prim.Native.Nat.{ℕ, zero, suc, _+_, _-_, _≤_, _<_}
+use Prim.Native.Nat.{ℕ, zero, suc, _+_, _*_, _-_, _≤_, _<_}
 use native.Mathlib.Omega.{arith}
 use native.Mathlib.Numerals.{sub-one}
-use mathlib.Core.Path.{_≡_, refl, sym, ap, _∙_}
+use mathlib.Core.Path.{_≡_, refl, sym, ap, subst, _∙_}
 use mathlib.Core.Bool.{Bool, true, false, _&&_, and-false}
 use mathlib.Core.List.{List, [], _∷_, _++_, map, reverse, reverse-cons, append-assoc, append-nil}
 use lib.ListN.{length, getD}
@@ -13,6 +13,8 @@ use Rattle.laws.specs.Lists.{Tested, holds, fails, tested}
 use Rattle.laws.specs.Orders.{and-true}
 use Rattle.lists.specs.Pairs.{Onward}
 use Rattle.lists.specs.ChainLaws.{chain-end, chain-step, left}
+use Rattle.project.specs.Decoded.{needRowAt, needIn}
+use Rattle.project.specs.declared.sections.NeedRow.{NeedRow}
 use Rattle.owners.specs.Owners.{needAt, NeedsAlong}
 use Rattle.graph.specs.Graph.{Matrices, Shows, EdgeRoom, EdgeAdded}
 use Rattle.graph.specs.GraphLaws.{edge-room}
@@ -127,15 +129,15 @@ module _ {section next : List ℕ} {head : ℕ} {needs : List Need} (a : NeedsAl
       pub adding-room : length needs ≤ length from → length needs ≤ length to → NeedRoom words n (s .graph) m from to count
       adding-room f t = record { shows = s .shows; from-room = omega (arith, s .left, one-less); to-room = omega (arith, s .left, one-less) }
 
-      pub adding-next : {m′ : Matrices} {from′ to′ : List ℕ} {count′ : ℕ}
-          → Shows words n (addNeed rows (s .graph) (needAt section (e - 1))) m′ from′ to′ count′
+      pub adding-next : {row : NeedRow} {m′ : Matrices} {from′ to′ : List ℕ} {count′ : ℕ} → row ≡ needRowAt section (3 * (e - 1))
+          → Shows words n (addNeed rows (s .graph) (needIn row)) m′ from′ to′ count′
           → Adding rows section next (a .count) (getD next (e - 1) 0) needs words n m′ from′ to′ count′
-      unfolding addNeeds
-      adding-next shown =
+      unfolding addNeeds needAt
+      adding-next {m′ = m′} {from′} {to′} {count′} read shown =
           record {
             most = a .next-onward (e - 1) (omega (arith, s .most)) .1;
             graph = addNeed rows (s .graph) (needAt section (e - 1));
-            shows = shown;
+            shows = subst (λ (r : NeedRow). Shows words n (addNeed rows (s .graph) (needIn r)) m′ from′ to′ count′) read shown;
             left = omega (arith, s .left, one-less, most-one rows (s .graph) (needAt section (e - 1)));
             same = (rw (rest-step e h (s .most)) at (s .same));
           }

@@ -1,23 +1,25 @@
 // The needs of a group, added to its graph by the numbers of their items.
 ghost use mathlib.Core.List.{List, reverse};
 ghost use lib.ListN.{take};
-ghost use Rattle.rules.specs.Project.{Need, needRow};
+ghost use Prim.Native.Nat.{_<_};
+ghost use Rattle.rules.specs.Project.{Need, itemLimit};
+ghost use Rattle.project.specs.Decoded.{needIn};
 ghost use Rattle.owners.specs.Owners.{NeedsAlong};
 ghost use Rattle.graph.specs.Graph.{matrices, Shows};
 ghost use Rattle.layout.specs.Numbers.{Numbers};
 ghost use Rattle.layout.specs.Needs.{addNeed, needsAmong, NeedRoom, NeedsRoom};
 use super::numbers;
 use graph;
+use project::NodeId;
+use project::sections::NeedRow;
+use project::sections::need_at;
 
-// Adds the need of row a for row b behind `count` different pairs, where both are among the first n rows; the number of pairs then. In the matrices
-// rows from n on, and in `from` and `to` places from the new count on, are left free.
+// Adds a need behind `count` different pairs, where both its items are among the first n rows; the number of pairs then. In the matrices rows from n on, and in `from` and `to` places from the new count on, are left free.
 fn add_need(
     rows: &[u16],
     n: usize,
     numbers: &[u16],
-    a: u8,
-    b: u8,
-    weight: u8,
+    need: NeedRow,
     words: usize,
     seen: &mut [u64],
     weak: &mut [u64],
@@ -28,19 +30,19 @@ fn add_need(
     to: &mut [u16],
     count: usize,
 ) -> usize
-    requires { ⌜ Numbers (now rows) n (now numbers) ⌝ }
+    requires { ⌜ Numbers (now rows) n (now numbers) × (need .dependant .0 < itemLimit) × (need .dependency .0 < itemLimit) ⌝ }
     requires { ⌜ ((graph : List Need) × NeedRoom words n graph (matrices (now seen) (now weak) (now reach) (now into) (now paths)) (now from) (now to) count) ⌝ }
     ensures { λ r. ⌜ ((graph : List Need)
         → NeedRoom words n graph (matrices (now (seen .entry)) (now (weak .entry)) (now (reach .entry)) (now (into .entry)) (now (paths .entry))) (now (from .entry))
         (now (to .entry)) count
-        → Shows words n (addNeed (take n (now (rows .entry))) graph (needRow a b weight))
+        → Shows words n (addNeed (take n (now (rows .entry))) graph (needIn need))
         (matrices (now (seen .exit)) (now (weak .exit)) (now (reach .exit)) (now (into .exit)) (now (paths .exit))) (now (from .exit)) (now (to .exit)) r) ⌝ }
 {
-    let x = numbers::number_in_group(rows, n, numbers, a);
+    let x = numbers::number_in_group(rows, n, numbers, need.dependant);
     if x == 0 {
         return count;
     }
-    let y = numbers::number_in_group(rows, n, numbers, b);
+    let y = numbers::number_in_group(rows, n, numbers, need.dependency);
     if y == 0 {
         return count;
     }
@@ -55,9 +57,9 @@ fn add_need(
         count,
         words,
         n,
-        x - 1,
-        y - 1,
-        weight,
+        NodeId(x - 1),
+        NodeId(y - 1),
+        need.weight,
     )
 }
 
@@ -92,16 +94,12 @@ pub fn add_needs(
     let mut e = head as usize;
     while e != 0 {
         let i = e - 1;
-        let dependant = needs[3 * i];
-        let dependency = needs[3 * i + 1];
-        let weight = needs[3 * i + 2];
+        let need = need_at(needs, NeedRow::BYTES * i);
         count = add_need(
             rows,
             n,
             numbers,
-            dependant,
-            dependency,
-            weight,
+            need,
             words,
             seen,
             weak,

@@ -1,8 +1,10 @@
 // The numbers of a group's rows, found by row.
 ghost use mathlib.Core.Path.{_≡_};
 ghost use lib.ListN.{take};
-ghost use Rattle.rules.specs.Project.{Project};
+ghost use Prim.Native.Nat.{_<_};
+ghost use Rattle.rules.specs.Project.{Project, itemLimit};
 ghost use Rattle.layout.specs.Numbers.{noteFrom, numberIn, NumbersRoom, Numbers, Numberable, ItemsNumbered};
+use project::ItemId;
 use split::Split;
 use split::split_items;
 
@@ -20,11 +22,11 @@ pub fn note_numbers(rows: &[u16], n: usize, numbers: &mut [u16])
 }
 
 // One more than the number of a row, and 0 where it is not among the first n rows: what is noted of it may be from another group.
-pub fn number_in_group(rows: &[u16], n: usize, numbers: &[u16], row: u8) -> u16
-    requires { ⌜ Numbers (now rows) n (now numbers) ⌝ }
-    ensures { λ r. ⌜ r ≡ numberIn (take n (now (rows .entry))) row ⌝ }
+pub fn number_in_group(rows: &[u16], n: usize, numbers: &[u16], row: ItemId) -> u16
+    requires { ⌜ Numbers (now rows) n (now numbers) × (row .0 < itemLimit) ⌝ }
+    ensures { λ r. ⌜ r ≡ numberIn (take n (now (rows .entry))) (row .0) ⌝ }
 {
-    let x = numbers[row as usize];
+    let x = numbers[row.0 as usize];
     if x == 0 {
         return 0;
     }
@@ -32,7 +34,7 @@ pub fn number_in_group(rows: &[u16], n: usize, numbers: &[u16], row: u8) -> u16
     if n <= at {
         return 0;
     }
-    if rows[at] == row as u16 {
+    if rows[at] == row.0 {
         return x;
     }
     0

@@ -1,23 +1,22 @@
 -- Laws of the loops over the groups' turns. Assumes nothing.
-use Prim.Native.Nat.{ℕ, zero, suc, _+_, _*_, _-_, _≤_, _<_}
+use Prim.Native.Nat.{ℕ, _+_, _-_, _≤_, _<_}
 use native.Mathlib.Omega.{arith}
 use mathlib.Core.Path.{_≡_, refl, sym, ap, subst, _∙_}
 use mathlib.Core.Bool.{Bool, true, false, not, _||_}
 use mathlib.Core.List.{List, [], _∷_, _++_, map, reverse, reverse-cons, append-assoc, List·Memᴰ·not-nil}
 use lib.Dec.{eqb}
 use lib.ListN.{length, getD, drop, length-append}
-use lib.Seq.{sets}
 use Rattle.rules.specs.Lists.{any, keep, elem}
 use Rattle.rules.specs.Project.{Project, Need, moduleLimit, itemLimit}
-use Rattle.rules.specs.Walk.{Stop, finished, spent, full}
+use Rattle.rules.specs.Walk.{Stop, finished}
 use Rattle.rules.specs.Modules.{isDone}
 use Rattle.rules.specs.Items.{keepsRowOrder, givingModules, givenRows, numbering, numbered, sortModules, sortGroup}
 use Rattle.rules.specs.Calls.{itemListLimit, groupBytes, continueWith, orderGroups}
-use Rattle.laws.specs.Lists.{_∈_, ∈-right, ∈-self, keep-∈, reverse-∈, true-elem, not-true, both, length-parts, Once, none}
+use Rattle.laws.specs.Lists.{_∈_, ∈-right, ∈-self, keep-∈, reverse-∈, true-elem, not-true, both, length-parts, none}
 use Rattle.laws.specs.Counting.{Below}
 use Rattle.laws.specs.Terms.{moduleOf}
 use Rattle.laws.specs.Splits.{givenRows-∈, once-givenRows, numbering-∈, once-numbering, giving}
-use Rattle.laws.specs.OrderCalls.{given-belongs, Segment, segment}
+use Rattle.laws.specs.OrderCalls.{given-belongs, segment}
 use Rattle.lists.specs.Bits.{bit}
 use Rattle.lists.specs.BitLaws.{bit-zero}
 use Rattle.owners.specs.GroupBytes.{membersAt, first-below, first-byte, first-within, first-members, first-past}
@@ -33,7 +32,7 @@ use Rattle.order.specs.declared.Turn.{Turn}
 use Rattle.order.specs.declared.Turns.{Turns}
 use Rattle.order.specs.declared.Turns.the-variants.{Ended, Crowded}
 use Rattle.giving.specs.Giving.{Members, Stored}
-use Rattle.order.specs.Orders.{Ordered, has-finished as has-ordered, was-spent as order-spent, was-full as order-full, Ready, Taking, Advanced, Took, Gave, Turning, stoppedAs, Turned, has-ended, was-crowded}
+use Rattle.order.specs.Orders.{Ordered, has-finished as has-ordered, was-spent as order-spent, was-full as order-full, Ready, Taking, Advanced, Took, Turning, stoppedAs, Turned, has-ended, was-crowded}
 use Rattle.giving.specs.StoreLaws.{stored-behind}
 use Rattle.order.specs.TurnLaws.{gave-more, gave-room, sorted-most}
 

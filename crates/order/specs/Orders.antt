@@ -1,16 +1,15 @@
 -- What sorting all groups of an order call relies on and comes to. Assumes nothing.
 use Prim.Native.Nat.{ℕ, _+_, _*_, _-_, _≤_, _<_}
 use mathlib.Core.Path.{_≡_}
-use mathlib.Core.Bool.{Bool, true, not, _&&_, _||_}
+use mathlib.Core.Bool.{true, not, _||_}
 use mathlib.Core.List.{List, [], _++_, reverse}
-use lib.Dec.{eqb}
 use lib.ListN.{length, drop}
 use lib.Seq.{sets}
-use Rattle.rules.specs.Lists.{isEmpty, any, keep, elem}
-use Rattle.rules.specs.Project.{Item, Import, Project, moduleLimit, itemLimit, itemRow, importRow, pairRows, needRows}
+use Rattle.rules.specs.Lists.{isEmpty, elem}
+use Rattle.rules.specs.Project.{Project, moduleLimit, itemLimit, itemRow, importRow, pairRows, needRows}
 use Rattle.rules.specs.Walk.{Stop, finished, spent, full}
-use Rattle.rules.specs.Modules.{importsOf, isDone}
-use Rattle.rules.specs.Items.{isKept, keptRowsOf, givingModules, givenRows}
+use Rattle.rules.specs.Modules.{isDone}
+use Rattle.rules.specs.Items.{keptRowsOf, givingModules, givenRows}
 use Rattle.rules.specs.Calls.{itemListLimit, groupBytes, orderGroups}
 use Rattle.laws.specs.Lists.{_∈_, Once}
 use Rattle.laws.specs.Counting.{Below}
@@ -18,7 +17,7 @@ use Rattle.laws.specs.Terms.{Kept, moduleOf}
 use Rattle.laws.specs.Accepted.{Accepted}
 use Rattle.laws.specs.OrderCalls.{EachOnce}
 use Rattle.lists.specs.Bits.{bit}
-use Rattle.split.specs.Splits.{RowsAlong, ModuleChains}
+use Rattle.split.specs.Splits.{ModuleChains}
 use Rattle.owners.specs.Owners.{Owned, NeedsChained}
 use Rattle.group.specs.Walking.{Sized}
 use Rattle.group.specs.declared.Ending.{Ending as SortEnding}

@@ -1,27 +1,26 @@
 -- Laws of the turns of groups. Assumes nothing.
-use Prim.Native.Nat.{ℕ, zero, suc, _+_, _*_, _-_, _≤_, _<_}
+use Prim.Native.Nat.{ℕ, _+_, _-_, _≤_}
 use native.Mathlib.Omega.{arith}
 use mathlib.Core.Path.{_≡_, refl, sym, ap, subst, _∙_}
 use mathlib.Core.Logic.{⊎-elim}
-use mathlib.Core.Bool.{Bool, true, false, not, _&&_, _||_}
-use mathlib.Core.List.{List, [], _∷_, _++_, flatMap, reverse, reverse-cons, append-assoc}
-use lib.ListN.{length, getD, take, drop, length-drop, length-append}
-use lib.Seq.{length-take-le, getD-drop, drop-drop, take-append-seam, drop-append-seam}
-use Rattle.rules.specs.Lists.{isEmpty, any, elem, upFrom}
+use mathlib.Core.Bool.{Bool, not, _&&_}
+use mathlib.Core.List.{List, _∷_, _++_, reverse}
+use lib.ListN.{length, take, length-append}
+use lib.Seq.{length-take-le}
+use Rattle.rules.specs.Lists.{upFrom}
 use Rattle.rules.specs.Project.{Project, moduleLimit}
 use Rattle.rules.specs.Walk.{Walk, Stop, finished, spent, full}
-use Rattle.rules.specs.Modules.{importsOf, isDone}
-use Rattle.rules.specs.Items.{keepsRowOrder, givingModules, givenRows, numbering, groupOf, ItemState, itemWalk, itemStart, orderOf, sortModules}
-use Rattle.rules.specs.Calls.{groupBytes}
+use Rattle.rules.specs.Modules.{isDone}
+use Rattle.rules.specs.Items.{givingModules, givenRows, numbering, groupOf, ItemState, itemWalk, itemStart, orderOf, sortModules}
 use Rattle.laws.specs.Lists.{_∈_, ∈-append, ∈-upFrom, length-upFrom, Once, once-append, once-length}
-use Rattle.laws.specs.Counting.{Below, below-length, keep-same}
+use Rattle.laws.specs.Counting.{below-length, keep-same}
 use Rattle.laws.specs.Runs.{Stopped, at-end, at-allowance, at-limit, stopped}
 use Rattle.laws.specs.ModuleVisit.{isDone-∈, done-now, done-still}
 use Rattle.laws.specs.Terms.{moduleOf, BelongsTo}
 use Rattle.lists.specs.Bits.{bit}
 use Rattle.split.specs.Splits.{ModuleChains}
 use Rattle.order.specs.declared.Turn.{Turn}
-use Rattle.giving.specs.Giving.{ImportersShown, Members, givingOf, Stored}
+use Rattle.giving.specs.Giving.{Members, givingOf, Stored}
 use Rattle.order.specs.Orders.{Taking, Advanced, Took, Gave}
 use Rattle.giving.specs.StoreLaws.{kept-most, stored-within, stored-front}
 

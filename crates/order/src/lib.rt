@@ -1,9 +1,14 @@
 // The groups of an order call, sorted in turn (toposort_real_modules).
 use giving::kept;
+use graph::rows::ROW_WORDS;
 use group::sort_stmts;
 use owners::chain_needs;
 use owners::note_owners;
+use project::Layout;
+use project::sections::ItemRow;
+use project::sections::NeedRow;
 use split::chains::chain_rows;
+use stmt::walk::ItemWalk;
 ghost use Prim.Native.Nat.{ℕ, _+_, _*_, _≤_, _<_};
 ghost use mathlib.Core.List.{List, []};
 ghost use lib.ListN.{length};
@@ -21,6 +26,40 @@ pub struct Turn {
     pub used: u64,
     pub kept: usize,
     pub made: u32,
+}
+
+impl Turn {
+    // The chains of needs: one for each number of groups left.
+    pub const CHAINS: usize = Layout::MODULE_ROOM + 1;
+}
+
+// The sizes of the arrays for a project of usual size.
+pub struct Small;
+
+impl Small {
+    // The most items, and the bytes of their rows.
+    pub const ITEMS: usize = 128;
+
+    pub const ITEM_BYTES: usize = ItemRow::BYTES * Self::ITEMS;
+
+    // The most needs, and the bytes of their rows.
+    pub const NEEDS: usize = 512;
+
+    pub const NEED_BYTES: usize = NeedRow::BYTES * Self::NEEDS;
+
+    // A row of two words for each item.
+    pub const MATRIX: usize = 2 * Self::ITEMS;
+
+    // The entries of a list.
+    pub const LIST: usize = 1024;
+}
+
+// The sizes of the arrays for any project.
+pub struct Large;
+
+impl Large {
+    // A row of bits for each item.
+    pub const MATRIX: usize = ROW_WORDS * Layout::ITEM_ROOM;
 }
 
 // How the sort of all groups stopped, with the end of the rows written and the visits made.
@@ -67,7 +106,7 @@ fn keep_group(
         → Taking p earlier (now (members .entry)) (now (items .entry)) (now (next .entry)) (now (heads .entry)) givers t (now (out .entry))
         → Took p earlier (now (members .entry)) t (now (out .entry)) (now (out .exit)) r) ⌝ }
 {
-    let mut modules = [0u8; 64];
+    let mut modules = [0u8; Layout::MODULE_ROOM];
     let n = giving::giving(members, t.used, givers, &mut modules);
     let kept = kept::write_given(items, next, heads, &modules[..n], out, t.kept);
     after(t, members, kept, t.made)
@@ -160,18 +199,18 @@ fn sort_turns(
         (now (moved .entry)) (now (from .entry)) (now (to .entry)) (now («next_out» .entry)) (now («next_in» .entry))
         → Turned (length (now (list .entry))) p groups (now (bytes .entry)) allowance before (now (out .exit)) r) ⌝ }
 {
-    let mut rows = [0u16; 256];
-    let mut kinds = [0u8; 256];
-    let mut low = [0u16; 256];
-    let mut high = [0u16; 256];
-    let mut starts = [0u16; 64];
-    let mut numbers = [0u16; 256];
-    let mut placed = [0u64; 4];
-    let mut heads_out = [0u16; 256];
-    let mut heads_in = [0u16; 256];
-    let mut open = [0u16; 256];
-    let mut order = [0u16; 256];
-    let mut modules = [0u8; 64];
+    let mut rows = [0u16; Layout::ITEM_ROOM];
+    let mut kinds = [0u8; Layout::ITEM_ROOM];
+    let mut low = [0u16; Layout::ITEM_ROOM];
+    let mut high = [0u16; Layout::ITEM_ROOM];
+    let mut starts = [0u16; Layout::MODULE_ROOM];
+    let mut numbers = [0u16; Layout::ITEM_ROOM];
+    let mut placed = [0u64; ROW_WORDS];
+    let mut heads_out = [0u16; Layout::ITEM_ROOM];
+    let mut heads_in = [0u16; Layout::ITEM_ROOM];
+    let mut open = [0u16; Layout::ITEM_ROOM];
+    let mut order = [0u16; Layout::ITEM_ROOM];
+    let mut modules = [0u8; Layout::MODULE_ROOM];
     let mut t = first;
     while 0 < t.left {
         let place = t.place;
@@ -226,7 +265,7 @@ fn sort_turns(
     Turns::Ended(Ending::Finished(t.kept, t.made))
 }
 
-// Chains the needs and takes the turns, with arrays for 128 items and 512 needs, and for lists of 1,024 entries.
+// Chains the needs and takes the turns, with small arrays.
 fn sort_small(
     items: &[u8],
     needs: &[u8],
@@ -248,19 +287,19 @@ fn sort_small(
         importers givers allowance before (now (out .entry)) first → length (p .items) ≤ 128 → length (p .needs) ≤ 512
         → Turned 1024 p groups (now (bytes .entry)) allowance before (now (out .exit)) r) ⌝ }
 {
-    let mut next_need = [0u16; 512];
-    let mut need_heads = [0u16; 65];
+    let mut next_need = [0u16; Small::NEEDS];
+    let mut need_heads = [0u16; Turn::CHAINS];
     chain_needs(items, needs, owners, &mut need_heads, &mut next_need);
-    let mut seen = [0u64; 256];
-    let mut weak = [0u64; 256];
-    let mut reach = [0u64; 256];
-    let mut paths = [0u64; 256];
-    let mut moved = [0u64; 256];
-    let mut from = [0u16; 512];
-    let mut to = [0u16; 512];
-    let mut next_out = [0u16; 512];
-    let mut next_in = [0u16; 512];
-    let mut list = [0u16; 1024];
+    let mut seen = [0u64; Small::MATRIX];
+    let mut weak = [0u64; Small::MATRIX];
+    let mut reach = [0u64; Small::MATRIX];
+    let mut paths = [0u64; Small::MATRIX];
+    let mut moved = [0u64; Small::MATRIX];
+    let mut from = [0u16; Small::NEEDS];
+    let mut to = [0u16; Small::NEEDS];
+    let mut next_out = [0u16; Small::NEEDS];
+    let mut next_in = [0u16; Small::NEEDS];
+    let mut list = [0u16; Small::LIST];
     sort_turns(
         items,
         needs,
@@ -309,19 +348,19 @@ fn sort_large(
         importers givers allowance before (now (out .entry)) first → length (p .items) ≤ itemLimit → length (p .needs) ≤ needLimit
         → Ordered (orderGroups p itemListLimit allowance [] groups [] 0) before (now (out .exit)) r) ⌝ }
 {
-    let mut next_need = [0u16; 2048];
-    let mut need_heads = [0u16; 65];
+    let mut next_need = [0u16; Layout::NEED_ROOM];
+    let mut need_heads = [0u16; Turn::CHAINS];
     chain_needs(items, needs, owners, &mut need_heads, &mut next_need);
-    let mut seen = [0u64; 1024];
-    let mut weak = [0u64; 1024];
-    let mut reach = [0u64; 1024];
-    let mut paths = [0u64; 1024];
-    let mut moved = [0u64; 1024];
-    let mut from = [0u16; 2048];
-    let mut to = [0u16; 2048];
-    let mut next_out = [0u16; 2048];
-    let mut next_in = [0u16; 2048];
-    let mut list = [0u16; 16384];
+    let mut seen = [0u64; Large::MATRIX];
+    let mut weak = [0u64; Large::MATRIX];
+    let mut reach = [0u64; Large::MATRIX];
+    let mut paths = [0u64; Large::MATRIX];
+    let mut moved = [0u64; Large::MATRIX];
+    let mut from = [0u16; Layout::NEED_ROOM];
+    let mut to = [0u16; Layout::NEED_ROOM];
+    let mut next_out = [0u16; Layout::NEED_ROOM];
+    let mut next_in = [0u16; Layout::NEED_ROOM];
+    let mut list = [0u16; ItemWalk::LIST];
     let turns = sort_turns(
         items,
         needs,
@@ -376,10 +415,10 @@ fn sort_rest(
         allowance before (now (out .entry)) first
         → Ordered (orderGroups p itemListLimit allowance [] groups [] 0) before (now (out .exit)) r) ⌝ }
 {
-    let mut owners = [0u8; 64];
+    let mut owners = [0u8; Layout::MODULE_ROOM];
     note_owners(bytes, count, &mut owners);
     // `sort_large` is called at several places, so that it is not merged into this function: the large arrays stay off the stack frame of small projects.
-    if 256 < items.len() {
+    if Small::ITEM_BYTES < items.len() {
         return sort_large(
             items,
             needs,
@@ -394,7 +433,7 @@ fn sort_rest(
             allowance,
         );
     }
-    if 1536 < needs.len() {
+    if Small::NEED_BYTES < needs.len() {
         return sort_large(
             items,
             needs,
@@ -455,9 +494,9 @@ pub fn sort_groups(
         → Orderable p gs (now (items .entry)) (now (imports .entry)) (now (needs .entry)) (now (groups .entry)) count (now (out .entry))
         → Ordered (orderGroups p itemListLimit allowance [] gs [] 0) (now (out .entry)) (now (out .exit)) r) ⌝ }
 {
-    let mut module_of = [0u16; 256];
-    let mut heads = [0u16; 64];
-    let mut next = [0u16; 256];
+    let mut module_of = [0u16; Layout::ITEM_ROOM];
+    let mut heads = [0u16; Layout::MODULE_ROOM];
+    let mut next = [0u16; Layout::ITEM_ROOM];
     chain_rows(items, &mut module_of, &mut heads, &mut next);
     let importers = giving::importers(imports);
     let givers = giving::givers(items);

@@ -5,14 +5,16 @@ mod report;
 
 use chunk::walk;
 use chunk::walk::Ending;
+use chunk::walk::ModuleWalk;
 use order::sort_groups;
 use project::Layout;
 use project::Reading;
+use project::sections::ItemRow;
 ghost use mathlib.Core.Path.{_≡_};
 ghost use mathlib.Core.List.{List, []};
-ghost use Prim.Native.Nat.{ℕ, _-_, _≤_};
+ghost use Prim.Native.Nat.{ℕ, _+_, _*_, _-_, _≤_};
 ghost use lib.ListN.{length};
-ghost use Rattle.rules.specs.Project.{Project, projectOf};
+ghost use Rattle.rules.specs.Project.{Project, projectOf, moduleLimit};
 ghost use Rattle.rules.specs.Walk.{Stop};
 ghost use Rattle.rules.specs.Modules.{ModuleState, groupsOf, groupsInOrder, runModules};
 ghost use Rattle.rules.specs.Calls.{refusal, allowed, overwrite, moduleListLimit, itemListLimit, groupsAnswer, groupsOfProject, groupsCall, orderGroups, orderAnswer, afterGroups, orderOfProject, orderCall};
@@ -80,7 +82,7 @@ pub fn groups(project: &[u8], reply: &mut [u8], allowance: u32) -> Numbers
 // The module walk of an accepted project, whose groups are written to `out`. Where it has not finished, what `out` holds is left free.
 fn find_groups(project: &[u8], l: Layout, out: &mut [u8], allowance: u32) -> Ending
     requires { ⌜ Accepts (now project) l ⌝ }
-    requires { ⌜ length (now out) ≡ 4160 ⌝ }
+    requires { ⌜ length (now out) ≡ moduleLimit * (moduleLimit + 1) ⌝ }
     ensures { λ r. ⌜ Ended (runModules (projectOf (now (project .entry))) moduleListLimit allowance) (Holds (now (out .exit))) r ⌝ }
 {
     let items_end = l.items_end;
@@ -106,7 +108,7 @@ fn groups_of(project: &[u8], l: Layout, reply: &mut [u8], allowance: u32) -> Num
     if reply.len() < m * (m + 1) {
         return refusal(10, 0, 0);
     }
-    let mut out = [0u8; 4160];
+    let mut out = [0u8; ModuleWalk::GROUPS];
     let ending = find_groups(project, l, &mut out, allowance);
     give_groups(ending, &out, reply)
 }
@@ -156,10 +158,10 @@ fn order_of(project: &[u8], l: Layout, reply: &mut [u8], allowance: u32) -> Numb
         ⌜ Answered (orderOfProject (projectOf (now (project .entry))) (length (now (reply .entry))) allowance) (now (reply .entry)) (now (reply .exit)) r ⌝ }
 {
     let items_end = l.items_end;
-    if reply.len() < (items_end - Layout::START) / 2 {
+    if reply.len() < (items_end - Layout::START) / ItemRow::BYTES {
         return refusal(10, 0, 0);
     }
-    let mut groups = [0u8; 4160];
+    let mut groups = [0u8; ModuleWalk::GROUPS];
     let ending = find_groups(project, l, &mut groups, allowance);
     sort_found(project, l, ending, &groups, reply, allowance)
 }
@@ -217,7 +219,7 @@ fn sort_items(
     let items_end = l.items_end;
     let imports_end = l.imports_end;
     let circles_end = l.circles_end;
-    let mut rows = [0u8; 256];
+    let mut rows = [0u8; Layout::ITEM_ROOM];
     let ending = sort_groups(
         &project[Layout::START..items_end],
         &project[items_end..imports_end],

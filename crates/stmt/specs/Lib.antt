@@ -1,4 +1,5 @@
 pub mod Walks
 pub mod WalkLaws
 pub mod VisitLaws
+pub mod StartLaws
 pub mod RunLaws

@@ -9,7 +9,7 @@ use mathlib.Core.List.{List, [], _∷_, List·Memᴰ·not-nil}
 use lib.ListN.{length}
 use lib.Dec.{ltb}
 use borrow.Author.Tests.{lt-ltb, le-ltb, ltb-true, ltb-false}
-use Rattle.rules.specs.Lists.{elem, upFrom}
+use Rattle.rules.specs.Lists.{all, elem, upFrom}
 use Rattle.rules.specs.Walk.{Stop, full, run}
 use Rattle.rules.specs.Items.{Group, numbers, ItemState, itemList, placedOf, visitItem, itemWalk}
 use Rattle.rules.specs.Calls.{itemListLimit}
@@ -20,11 +20,12 @@ use Rattle.laws.specs.Runs.{run-ended, run-spent, run-full, run-on}
 use Rattle.laws.specs.ItemWalk.{Walked, walked-visit}
 use Rattle.lists.specs.Stacks.{stack}
 use Rattle.lists.specs.StackLaws.{stack-length}
+use Rattle.stmt.specs.VisitLaws.{shows-sized}
 use Rattle.stmt.specs.declared.walk.ItemWalk.{ItemWalk}
 use Rattle.stmt.specs.declared.walk.Outcome.{Outcome}
 use Rattle.stmt.specs.declared.walk.Outcome.the-variants.{WentOn, Placed}
 use Rattle.stmt.specs.declared.walk.Ending.the-variants.{Finished, Spent, Full}
-use Rattle.stmt.specs.Walks.{Room, Shows, Walking, Came, went-on, placed-one, Running, Ended, has-finished, was-spent, list-was-full}
+use Rattle.stmt.specs.Walks.{Room, Shows, Walking, SameVisits, Came, went-on, placed-one, Running, Ended, has-finished, was-spent, list-was-full}
 
 -- The walk has ended where as many items are placed as there are: none is placed twice.
 module _ {g : Group} {s : ItemState} (i : Walked g s) where
@@ -106,21 +107,30 @@ module _ {g : Group} {before : List ℕ} {t : ItemState} {width : ℕ} {placed m
       go : Came g before t width placed moved order list (Placed w) → Shows g width placed moved order list w t
       go (placed-one e h) = h
 
-pub runs-first : {g : Group} {to heads-out next-out from heads-in next-in paths weak kinds low high : List ℕ} {width : ℕ}
+pub runs-first : {g walked : Group} {to heads-out next-out from heads-in next-in paths weak kinds low high : List ℕ} {width : ℕ}
     {allowance already : ℕ} {first : ItemState} {placed moved «open» order list : List ℕ} {w : ItemWalk}
     → Walking g to heads-out next-out from heads-in next-in paths weak kinds low high width placed moved «open» order list w first
-    → Running g to heads-out next-out from heads-in next-in paths weak kinds low high width allowance already first placed moved «open» order list w already
+    → Running g walked to heads-out next-out from heads-in next-in paths weak kinds low high width allowance already first placed moved «open» order list w
+    already
 runs-first {first = first} h = record { state = first; walking = h; same = refl }
 
-module _ {g : Group} {to heads-out next-out from heads-in next-in paths weak kinds low high : List ℕ} {width : ℕ}
-    {allowance already : ℕ} {first : ItemState} {placed moved «open» order list : List ℕ} {w : ItemWalk} {made : ℕ}
-    (r : Running g to heads-out next-out from heads-in next-in paths weak kinds low high width allowance already first placed moved «open» order list w made) where
+-- One turn, of a group that is laid out and of the group that is walked.
+module _ {g walked : Group} {to heads-out next-out from heads-in next-in paths weak kinds low high : List ℕ} {width : ℕ}
+    {allowance already : ℕ} {first : ItemState} {placed moved «open» order list : List ℕ} {w : ItemWalk} {made : ℕ} (k : SameVisits g walked)
+    (r : Running g walked to heads-out next-out from heads-in next-in paths weak kinds low high width allowance already first placed moved «open» order list
+    w made) where
   abbrev stop : Stop ItemState
-  stop = run (itemWalk g) itemListLimit (allowance - already) already first
+  stop = run (itemWalk walked) itemListLimit (allowance - already) already first
+
+  -- both walks end at once
+  ended-same : {b : Bool} → itemWalk g .ended (r .state) ≡ b → itemWalk walked .ended (r .state) ≡ b
+  unfolding numbers
+  ended-same e = ap (λ (n : ℕ). all (λ x. elem x (placedOf (r .state))) (upFrom 0 n)) (sym (k .sizes)) ∙ e
 
   pub ends : {n : ℕ} → n ≡ size g → w .placed ≡ n → Ended stop n order (Finished made)
   ends {n} e f =
-      has-finished (r .state) (r .same ∙ run-ended (itemWalk g) itemListLimit (allowance - made) made (r .state) (walk-ended (r .walking) (f ∙ e)))
+      has-finished (r .state)
+      (r .same ∙ run-ended (itemWalk walked) itemListLimit (allowance - made) made (r .state) (ended-same (walk-ended (r .walking) (f ∙ e))))
       (ap (stack order) (sym f) ∙ r .walking .shows .items .shown)
 
   module _ (more : w .placed ≡ size g → ⊥) where
@@ -128,44 +138,44 @@ module _ {g : Group} {to heads-out next-out from heads-in next-in paths weak kin
     spends f =
         let none : allowance - made ≡ 0 = omega arith in
         was-spent
-        (r .same ∙ ap (λ (n : ℕ). run (itemWalk g) itemListLimit n made (r .state)) none
-        ∙ run-spent (itemWalk g) itemListLimit made (r .state) (walk-goes-on (r .walking) more))
+        (r .same ∙ ap (λ (n : ℕ). run (itemWalk walked) itemListLimit n made (r .state)) none
+        ∙ run-spent (itemWalk walked) itemListLimit made (r .state) (ended-same (walk-goes-on (r .walking) more)))
 
     -- one more visit
     module _ (left : made < allowance) where
-      one-more : run (itemWalk g) itemListLimit (allowance - made) made (r .state)
-          ≡ run (itemWalk g) itemListLimit (suc (allowance - (made + 1))) made (r .state)
+      one-more : run (itemWalk walked) itemListLimit (allowance - made) made (r .state)
+          ≡ run (itemWalk walked) itemListLimit (suc (allowance - (made + 1))) made (r .state)
       one-more =
           let f : allowance - made ≡ suc (allowance - (made + 1)) = omega arith in
-          ap (λ (n : ℕ). run (itemWalk g) itemListLimit n made (r .state)) f
+          ap (λ (n : ℕ). run (itemWalk walked) itemListLimit n made (r .state)) f
 
-      pub fills : {n : ℕ} (order′ : List ℕ) → itemListLimit < length (itemList (visitItem g (r .state))) → Ended stop n order′ (Full (made + 1))
+      pub fills : {n : ℕ} (order′ : List ℕ) → itemListLimit < length (itemList (visitItem walked (r .state))) → Ended stop n order′ (Full (made + 1))
       fills order′ f =
           list-was-full
           (r .same ∙ one-more
-          ∙ run-full (itemWalk g) itemListLimit (allowance - (made + 1)) made (r .state) (walk-goes-on (r .walking) more)
-          (lt-ltb itemListLimit (length (itemList (visitItem g (r .state)))) f) ∙ ap full (sym (add-one made)))
+          ∙ run-full (itemWalk walked) itemListLimit (allowance - (made + 1)) made (r .state) (ended-same (walk-goes-on (r .walking) more))
+          (lt-ltb itemListLimit (length (itemList (visitItem walked (r .state)))) f) ∙ ap full (sym (add-one made)))
 
       pub goes-on : {placed′ moved′ open′ order′ list′ : List ℕ} {w′ : ItemWalk} → length open′ ≡ length «open»
-          → Shows g width placed′ moved′ order′ list′ w′ (visitItem g (r .state))
-          → Running g to heads-out next-out from heads-in next-in paths weak kinds low high width allowance already first
+          → Shows walked width placed′ moved′ order′ list′ w′ (visitItem walked (r .state))
+          → Running g walked to heads-out next-out from heads-in next-in paths weak kinds low high width allowance already first
           placed′ moved′ open′ order′ list′ w′ (made + 1)
       goes-on {list′ = list′} {w′} a f =
-          let within : length (itemList (visitItem g (r .state))) ≤ itemListLimit =
+          let within : length (itemList (visitItem walked (r .state))) ≤ itemListLimit =
           omega (arith, ap length (f .entries .shown), stack-length list′ (w′ .end), f .entries .within) in
           record {
-            state = visitItem g (r .state);
+            state = visitItem walked (r .state);
             walking = record {
               laid = r .walking .laid;
               room = rw a (r .walking .room);
-              shows = f;
-              walked = walked-visit g (r .walking .laid .formed) (r .state) (r .walking .walked);
+              shows = shows-sized (sym (k .sizes)) f;
+              walked = subst (Walked g) (k .visits (r .state)) (walked-visit g (r .walking .laid .formed) (r .state) (r .walking .walked));
             };
             same =
                 r .same ∙ one-more
-                ∙ run-on (itemWalk g) itemListLimit (allowance - (made + 1)) made (r .state) (walk-goes-on (r .walking) more)
-                (le-ltb itemListLimit (length (itemList (visitItem g (r .state)))) within)
-                ∙ ap (λ (n : ℕ). run (itemWalk g) itemListLimit (allowance - (made + 1)) n (visitItem g (r .state))) (sym (add-one made));
+                ∙ run-on (itemWalk walked) itemListLimit (allowance - (made + 1)) made (r .state) (ended-same (walk-goes-on (r .walking) more))
+                (le-ltb itemListLimit (length (itemList (visitItem walked (r .state)))) within)
+                ∙ ap (λ (n : ℕ). run (itemWalk walked) itemListLimit (allowance - (made + 1)) n (visitItem walked (r .state))) (sym (add-one made));
           }
 
 -- Whether the array may be too short for one more visit.

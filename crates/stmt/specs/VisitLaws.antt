@@ -7,7 +7,6 @@ use mathlib.Core.Bool.{Bool, true, false, not, _&&_}
 use mathlib.Core.List.{List, [], _∷_, _++_}
 use lib.Dec.{ltb}
 use lib.ListN.{length, getD, take, set, length-take}
-use borrow.Author.Tests.{eq-eqb, ne-eqb}
 use Rattle.rules.specs.Lists.{isEmpty, keep, elem}
 use Rattle.rules.specs.Paths.{dependenciesOf}
 use Rattle.rules.specs.Items.{isInjected, Range, inRange, rangeOf, numbersOf, Group, kindOf, ItemState, itemState, hasMoved, Opened, opened, findOpen, isDropped, waiting, oneByOne, preceding, afterPreceding, afterOpen, visitItem, itemList, placedOf}
@@ -20,7 +19,7 @@ use Rattle.lists.specs.StackLaws.{stack-length}
 use Rattle.stmt.specs.declared.walk.ItemWalk.{ItemWalk}
 use Rattle.stmt.specs.declared.walk.Outcome.{Outcome}
 use Rattle.stmt.specs.declared.walk.Outcome.the-variants.{WentOn, Placed}
-use Rattle.stmt.specs.Walks.{Table, Ordered, movedOf, Walking, Came, went-on, placed-one, was-full, staying, Findable, Found, Relisted, relisted, too-many, Awaited, Front, Put, put, too-long, First, none, first, Settling, Noted, noted, had-moved}
+use Rattle.stmt.specs.Walks.{Table, Ordered, Shows, movedOf, Walking, SameVisits, Came, went-on, placed-one, was-full, staying, Findable, Found, Relisted, relisted, too-many, Awaited, Front, Put, put, too-long, First, none, first, Settling, Noted, noted, had-moved}
 use Rattle.stmt.specs.WalkLaws.{moved-more, front-entry, front-rest, listed-off, ordered-more}
 
 -- A state of the walk, from what shows its parts.
@@ -138,18 +137,16 @@ module _ {g : Group} {to heads-out next-out from heads-in next-in paths weak kin
       none-stay : staying g x openOf ≡ opened [] (f .after)
       none-stay = f .found ∙ ap (λ (n : ℕ). opened (take n open′) (f .after)) nothing
 
-      pub visit-injected : getD kinds x 0 ≡ 4 → {placed′ order′ list′ : List ℕ} {r : Outcome}
+      pub visit-injected : isInjected (getD kinds x 0) ≡ true → {placed′ order′ list′ : List ℕ} {r : Outcome}
           → Put (size g) (oneByOne (waiting g items x) rest) (x ∷ items) placed′ order′ list′ r
           → Came g items (visitItem g state) width placed′ moved′ order′ list′ r
-      unfolding isInjected
       visit-injected i q =
-          let injected : isInjected (kindOf g x) ≡ true = eq-eqb (kindOf g x) 4 (sym (h .laid .kinds-shown .each x front-below) ∙ i) in
+          let injected : isInjected (kindOf g x) ≡ true = ap isInjected (sym (h .laid .kinds-shown .each x front-below)) ∙ i in
           rw (visit-open, after-injected g x rest items openOf none-stay injected) (came-put (f .after) (f .shown) q)
 
-      module _ (other : getD kinds x 0 ≡ 4 → ⊥) where
+      module _ (other : isInjected (getD kinds x 0) ≡ false) where
         uninjected : isInjected (kindOf g x) ≡ false
-        unfolding isInjected
-        uninjected = ne-eqb (kindOf g x) 4 (λ e. other (h .laid .kinds-shown .each x front-below ∙ e))
+        uninjected = ap isInjected (sym (h .laid .kinds-shown .each x front-below)) ∙ other
 
         pub settling : Settling g from heads-in next-in kinds (getD low x 0) width placed moved′ order list w x rest items (f .after)
         settling =
@@ -220,6 +217,28 @@ module _ {g : Group} {from heads next kinds : List ℕ} {low width : ℕ} {place
     settled-waits (had-moved t i) k =
         absurd
         (false≢true (sym unmoved ∙ sym (s .precedable .moved-shown .bits x p (s .precedable .x-below) precedes-below) ∙ t))
+
+-- What shows a state of one group's walk shows it of a group with as many items,
+pub shows-sized : {g h : Group} {width : ℕ} {placed moved order list : List ℕ} {w : ItemWalk} {t : ItemState} → size g ≡ size h
+    → Shows g width placed moved order list w t → Shows h width placed moved order list w t
+shows-sized {width = width} {placed} {moved} {order} {w = w} {t} e s =
+    record {
+      entries = s .entries;
+      items = subst (λ (n : ℕ). Ordered n placed order (w .placed) (placedOf t)) e (s .items);
+      pairs = subst (λ (n : ℕ). Table n width moved (hasMoved (movedOf t))) e (s .pairs);
+    }
+
+-- and what comes of a visit of one comes of the same visit of the other.
+pub came-same : {g walked : Group} (s : ItemState) {width : ℕ} {placed moved order list : List ℕ} {r : Outcome} → SameVisits g walked
+    → Came g (placedOf s) (visitItem g s) width placed moved order list r → Came walked (placedOf s) (visitItem walked s) width placed moved order list r
+came-same {g} {walked} s {width} {placed} {moved} {order} {list} {r} same c =
+    go (subst (λ (t : ItemState). Came g (placedOf s) t width placed moved order list r) (same .visits s) c)
+  where
+    go : {o : Outcome} → Came g (placedOf s) (visitItem walked s) width placed moved order list o
+        → Came walked (placedOf s) (visitItem walked s) width placed moved order list o
+    go (went-on e h) = went-on e (shows-sized (same .sizes) h)
+    go (placed-one e h) = placed-one e (shows-sized (same .sizes) h)
+    go (was-full f) = was-full f
 
 -- The front of the list, of any state.
 module _ {g : Group} {to heads-out next-out from heads-in next-in paths weak kinds low high : List ℕ} {width : ℕ} {placed moved «open» order list : List ℕ}

@@ -9,11 +9,11 @@ use lib.Dec.{eqb, ltb}
 use lib.ListN.{length, getD, take, set, length-append, length-take, length-set, drop, drop-of-length-le}
 use lib.Seq.{append-snoc, take-suc-set, drop-cons, getD-take}
 use native.Mathlib.Numerals.{add-one, sub-one}
-use borrow.Author.Tests.{eqb-true, eqb-false, eq-eqb, ne-eqb, ltb-true, lt-ltb, le-ltb, le-leb, lt-leb}
+use borrow.Author.Tests.{ltb-true, lt-ltb, le-ltb, le-leb, lt-leb}
 use Rattle.rules.specs.Lists.{any, consIf, keep, elem, upFrom}
 use Rattle.rules.specs.Project.{Need, itemLimit, needLimit}
 use Rattle.rules.specs.Paths.{dependenciesOf, dependantsOf}
-use Rattle.rules.specs.Items.{isInjected, mayDrop, inRange, rangeOf, Group, kindOf, pathHolds, weightOf, sameRange, hasMoved, Opened, opened, withOpen, findOpen, isDropped, waiting, oneByOne, preceding, numbersOf}
+use Rattle.rules.specs.Items.{isInjected, inRange, rangeOf, Group, kindOf, pathHolds, weightOf, sameRange, hasMoved, Opened, opened, withOpen, findOpen, isDropped, waiting, oneByOne, preceding, numbersOf}
 use Rattle.rules.specs.Calls.{itemListLimit}
 use Rattle.laws.specs.Lists.{Tested, holds, fails, tested, _∈_, both, keep-∈, upFrom-∈, length-parts, once-different, eqb-sym}
 use Rattle.laws.specs.Splits.{size, WellFormed, inRange-true}
@@ -26,25 +26,11 @@ use Rattle.lists.specs.Stacks.{stack}
 use Rattle.lists.specs.StackLaws.{stack-length, stack-push, placed-stack, Placing, placing-start, placing-rest, placing-one, placing-end}
 use Rattle.lists.specs.Pairs.{targets}
 use Rattle.lists.specs.ChainLaws.{left, targets-end, targets-step}
+use Rattle.project.specs.Kinds.{injectedBy, mayDropBy, Says}
+use Rattle.project.specs.declared.kinds.Kind.{Kind}
+use Rattle.graph.specs.Graph.{isMaybe, Chained}
 use Rattle.split.specs.Shown.{RangeIs}
-use Rattle.stmt.specs.Walks.{Table, Chained, staying, Findable, Found, Listed, Fits, Pushed, pushed, no-room, Awaited, Ordered, Precedable, First, none, first, Cell, Noted, noted, had-moved, Skippable, Skipped, Testable, stays}
-
--- Kinds that may drop.
-pub drops-weak : (kind weight : ℕ) → kind ≡ 3 → mayDrop kind weight ≡ eqb weight 1
-unfolding mayDrop
-drops-weak kind weight e = rw e
-
-pub drops-all : (kind weight : ℕ) → 1 ≤ kind → kind ≤ 2 → mayDrop kind weight ≡ true
-unfolding mayDrop
-drops-all kind weight h g = go (tested (eqb kind 1))
-  where
-    go : Tested (eqb kind 1) → mayDrop kind weight ≡ true
-    go (holds e) = rw e
-    go (fails e) = let f = eqb-false kind 1 e in let q : kind ≡ 2 = omega arith in rw q
-
-pub drops-none : (kind weight : ℕ) → (kind ≡ 1 → ⊥) → (kind ≡ 2 → ⊥) → (kind ≡ 3 → ⊥) → mayDrop kind weight ≡ false
-unfolding mayDrop
-drops-none kind weight a b d = rw (ne-eqb kind 1 a, ne-eqb kind 2 b, ne-eqb kind 3 d)
+use Rattle.stmt.specs.Walks.{Table, staying, Findable, Found, Listed, Fits, Pushed, pushed, no-room, Awaited, Ordered, Precedable, First, none, first, Cell, Noted, noted, had-moved, Skippable, Skipped, Testable, stays}
 
 -- Tables of bits: a cell is a bit of the words, and its place is small.
 pub cell : {n width : ℕ} {words : List ℕ} {test : ℕ → ℕ → Bool} → Table n width words test → (a b : ℕ) → a < n → b < n → Cell width a b words
@@ -89,7 +75,7 @@ range-behind {g} {x} d r h k =
     let q = rangeOf (g .ranges) x in
     rw (le-leb (q .start) d (omega arith), le-ltb d (q .start + q .count) (omega arith))
 
-module _ {g : Group} {pairs : List (ℕ × ℕ)} {paths moved : List ℕ} {width x d kind low high : ℕ}
+module _ {g : Group} {pairs : List (ℕ × ℕ)} {paths moved : List ℕ} {width x d : ℕ} {kind : Kind} {low high : ℕ}
     (s : Skippable g pairs paths moved width x d kind low high) where
   pub skipped-inside : low ≤ d → d < high → Skipped g pairs moved width x d true
   unfolding findOpen
@@ -101,16 +87,15 @@ module _ {g : Group} {pairs : List (ℕ × ℕ)} {paths moved : List ℕ} {width
       }
 
   module _ (outside : sameRange g x d ≡ false) where
-    pub passed-injected : kind ≡ 4 → Skipped g pairs moved width x d false
-    unfolding findOpen isInjected
+    pub passed-injected : injectedBy kind ≡ true → Skipped g pairs moved width x d false
+    unfolding findOpen
     passed-injected e =
-        let injected : eqb (kindOf g x) 4 ≡ true = eq-eqb (kindOf g x) 4 (sym (s .kind-is) ∙ e) in
+        let injected : isInjected (kindOf g x) ≡ true = s .kind-is .injected ∙ e in
         record { after = pairs; shown = s .moved-shown; step = λ placed rest. rw (outside, injected, findOpen) }
 
-    module _ (other : kind ≡ 4 → ⊥) where
+    module _ (other : injectedBy kind ≡ false) where
       uninjected : isInjected (kindOf g x) ≡ false
-      unfolding isInjected
-      uninjected = ne-eqb (kindOf g x) 4 (λ e. other (s .kind-is ∙ e))
+      uninjected = s .kind-is .injected ∙ other
 
       pub passed-pathless : pathHolds g d x ≡ false → Skipped g pairs moved width x d false
       unfolding findOpen
@@ -135,7 +120,7 @@ module _ {g : Group} {pairs : List (ℕ × ℕ)} {paths moved : List ℕ} {width
           }
 
 -- Whether a dependency that is not skipped stays.
-module _ {g : Group} {items paths weak placed : List ℕ} {width x d kind : ℕ} (t : Testable g items paths weak placed width x d kind) where
+module _ {g : Group} {items paths weak placed : List ℕ} {width x d : ℕ} {kind : Kind} (t : Testable g items paths weak placed width x d kind) where
   pub path-bit : bitAt paths (d * width + x) ≡ pathHolds g d x
   path-bit = t .paths-shown .bits d x (t .d-below) (t .x-below)
 
@@ -152,10 +137,10 @@ module _ {g : Group} {items paths weak placed : List ℕ} {width x d kind : ℕ}
     stays-pathless e = rw (unplaced, sym path-bit ∙ e)
 
     pub stays-undropped : bitAt paths (d * width + x) ≡ true → {r : Bool}
-        → ((weight : ℕ) → bitAt weak (x * width + d) ≡ eqb weight 1 → r ≡ mayDrop kind weight) → stays g items x d ≡ not r
-    unfolding stays isDropped
+        → ((weight : ℕ) → bitAt weak (x * width + d) ≡ eqb weight 1 → r ≡ mayDropBy kind weight) → stays g items x d ≡ not r
+    unfolding stays isDropped isMaybe weightOf
     stays-undropped e {r} f =
-        rw (unplaced, sym path-bit ∙ e, ← t .kind-is)
+        rw (unplaced, sym path-bit ∙ e, t .kind-is .drops (weightOf g x d))
         (ap not (sym (f (weightOf g x d) (t .weak-shown .bits x d (t .x-below) (t .d-below)))))
 
 -- Along a chain.
@@ -256,24 +241,24 @@ dependencies-most {g} w x =
 -- What the tests on a dependency ask for.
 module _ {g : Group} {items : List ℕ} {pairs : List (ℕ × ℕ)} {to heads next paths weak kinds low high : List ℕ} {width : ℕ} {placed moved «open» : List ℕ}
     {x : ℕ} (f : Findable g items pairs to heads next paths weak kinds low high width placed moved «open» x) {d : ℕ} (below : d < size g) where
-  pub skippable : (after : List (ℕ × ℕ)) {moved′ : List ℕ} → Table (size g) width moved′ (hasMoved after)
-      → Skippable g after paths moved′ width x d (getD kinds x 0) (getD low x 0) (getD high x 0)
-  skippable after t =
+  pub skippable : {kind : Kind} → Says kind (getD kinds x 0) → (after : List (ℕ × ℕ)) {moved′ : List ℕ} → Table (size g) width moved′ (hasMoved after)
+      → Skippable g after paths moved′ width x d kind (getD low x 0) (getD high x 0)
+  skippable says after t =
       record {
         x-below = f .x-below;
         d-below = below;
-        kind-is = f .kinds-shown .each x (f .x-below);
+        kind-is = rw (f .kinds-shown .each x (f .x-below)) at says;
         range-is = f .ranges-shown .each x (f .x-below);
         paths-shown = f .paths-shown;
         moved-shown = t;
       }
 
-  pub testable : Testable g items paths weak placed width x d (getD kinds x 0)
-  testable =
+  pub testable : {kind : Kind} → Says kind (getD kinds x 0) → Testable g items paths weak placed width x d kind
+  testable says =
       record {
         x-below = f .x-below;
         d-below = below;
-        kind-is = f .kinds-shown .each x (f .x-below);
+        kind-is = rw (f .kinds-shown .each x (f .x-below)) at says;
         paths-shown = f .paths-shown;
         weak-shown = f .weak-shown;
         placed-shown = f .placed-shown;

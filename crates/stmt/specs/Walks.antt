@@ -1,22 +1,25 @@
 -- What the functions of src/walk.rt require and guarantee: how arrays and numbers stand for a group and for a state of its walk. Assumes nothing.
-use Prim.Native.Nat.{ℕ, suc, _+_, _*_, _-_, _≤_, _<_}
+use Prim.Native.Nat.{ℕ, _+_, _*_, _-_, _≤_, _<_}
 use mathlib.Core.Path.{_≡_}
 use mathlib.Core.Bool.{Bool, true, false, not, _&&_}
-use mathlib.Core.List.{List, [], _∷_}
-use lib.Dec.{eqb}
-use lib.ListN.{length, getD, take}
+use mathlib.Core.List.{List, [], _∷_, reverse}
+use lib.ListN.{length, take}
 use Rattle.rules.specs.Lists.{elem, keep}
-use Rattle.rules.specs.Project.{itemLimit, needLimit}
+use Rattle.rules.specs.Project.{itemLimit}
 use Rattle.rules.specs.Walk.{Stop, finished, spent, full, run}
 use Rattle.rules.specs.Paths.{dependenciesOf, dependantsOf}
-use Rattle.rules.specs.Items.{rangeOf, inRange, Group, kindOf, pathHolds, weightOf, ItemState, itemState, hasMoved, Opened, opened, withOpen, findOpen, isDropped, itemList, placedOf, itemWalk}
+use Rattle.rules.specs.Items.{rangeOf, inRange, Group, kindOf, pathHolds, firstList, ItemState, itemState, hasMoved, Opened, opened, withOpen, findOpen, isDropped, visitItem, itemList, placedOf, itemWalk, itemStart}
 use Rattle.rules.specs.Calls.{itemListLimit}
 use Rattle.laws.specs.Splits.{size, WellFormed}
 use Rattle.laws.specs.ItemWalk.{Walked}
+use Rattle.project.specs.Kinds.{Says}
+use Rattle.project.specs.declared.kinds.Kind.{Kind}
+use Rattle.graph.specs.Graph.{isMaybe, Chained}
+use Rattle.split.specs.declared.Split.{Split}
 use Rattle.split.specs.Shown.{Kinds, RangeIs, Ranges}
+use Rattle.split.specs.FirstLists.{Listable}
 use Rattle.lists.specs.Bits.{bitAt, Inserted}
 use Rattle.lists.specs.Stacks.{stack}
-use Rattle.lists.specs.Pairs.{Onward, targets}
 use Rattle.stmt.specs.declared.walk.ItemWalk.{ItemWalk}
 use Rattle.stmt.specs.declared.walk.Outcome.{Outcome}
 use Rattle.stmt.specs.declared.walk.Outcome.the-variants.{WentOn, Placed, ListFull}
@@ -36,30 +39,13 @@ pub record Table (n width : ℕ) (words : List ℕ) (test : ℕ → ℕ → Bool
   pub size : n * width ≤ length words * 64
   pub bits : (a b : ℕ) → a < n → b < n → bitAt words (a * width + b) ≡ test a b
 
--- Along the chain of each number below n, from heads[x] by `next`, stand its neighbours in their order, as entries of `ends`. The first `count` places
--- are in use.
-pub record Chained (neighbours : ℕ → List ℕ) (n : ℕ) (ends heads next : List ℕ) : Type 0 where
-  pub count : ℕ
-  pub most : count ≤ needLimit
-  pub ends-size : count ≤ length ends
-  pub next-size : count ≤ length next
-  pub heads-size : n ≤ length heads
-  pub ends-below : (i : ℕ) → i < count → getD ends i 0 < n
-  pub heads-most : (x : ℕ) → x < n → getD heads x 0 ≤ count
-  pub next-onward : (i : ℕ) → i < count → Onward (suc i) count (getD next i 0)
-  pub along : (x : ℕ) → x < n → targets ends next count (getD heads x 0) ≡ neighbours x
-
--- whether the need of x for d is weak: its weight is Maybe
-abbrev pub isWeak : Group → ℕ → ℕ → Bool
-isWeak g x d = eqb (weightOf g x d) 1
-
 -- What no visit changes: the group's needs as chains of dependencies and of dependants, its paths and weights, kinds and ranges.
 pub record Laid (g : Group) (to heads-out next-out from heads-in next-in paths weak kinds low high : List ℕ) (width : ℕ) : Type 0 where
   pub formed : WellFormed g
   pub dependencies : Chained (dependenciesOf (g .needs)) (size g) to heads-out next-out
   pub dependants : Chained (dependantsOf (g .needs)) (size g) from heads-in next-in
   pub paths-shown : Table (size g) width paths (pathHolds g)
-  pub weak-shown : Table (size g) width weak (isWeak g)
+  pub weak-shown : Table (size g) width weak (isMaybe (reverse (g .needs)))
   pub kinds-shown : Kinds g kinds
   pub ranges-shown : Ranges g low high
 
@@ -101,6 +87,25 @@ pub record Walking (g : Group) (to heads-out next-out from heads-in next-in path
   pub shows : Shows g width placed moved order list w s
   pub walked : Walked g s
 
+-- What making the first state asks for: the ranges and starts of the group, room for its first list, and rows of bits for its items.
+pub record Startable (g : Group) (low high starts : List ℕ) (s : Split) (words : ℕ) (placed moved list : List ℕ) : Type 0 where
+  pub listable : Listable g low high starts s list
+  pub count-is : s .count ≡ size g
+  pub first-most : length (firstList g) ≤ itemListLimit
+  pub within : size g ≤ 64 * words
+  pub most : 64 * words ≤ itemLimit
+  pub placed-size : words ≤ length placed
+  pub moved-size : size g * words ≤ length moved
+
+-- The first state: with any array that has room for the order, the arrays and numbers show it.
+abbrev pub Started : Group → ℕ → List ℕ → List ℕ → List ℕ → ItemWalk → Type 0
+Started g width placed moved list w = (order : List ℕ) → size g ≤ length order → Shows g width placed moved order list w (itemStart g)
+
+-- Two groups with as many items, of which every visit makes the same state. A group may be walked by another that is laid out in its place.
+pub record SameVisits (g walked : Group) : Type 0 where
+  pub sizes : size g ≡ size walked
+  pub visits : (s : ItemState) → visitItem g s ≡ visitItem walked s
+
 -- What a visit comes to, t being the state after it and `before` the items placed before it: whether it placed one, and that the arrays show t. Where
 -- the list would be too long, it is `ListFull`.
 pub data Came (g : Group) (before : List ℕ) (t : ItemState) (width : ℕ) (placed moved order list : List ℕ) : Outcome → Type 0 where
@@ -116,21 +121,16 @@ pub data Ended (stop : Stop ItemState) (n : ℕ) (order : List ℕ) : Ending →
   list-was-full : {made : ℕ} → stop ≡ full made → Ended stop n order (Full made)
 
 -- Between two visits of a run: `first` is the state that the run began with, `already` the visits made before it.
-pub record Running (g : Group) (to heads-out next-out from heads-in next-in paths weak kinds low high : List ℕ) (width : ℕ) (allowance already : ℕ)
+pub record Running (g walked : Group) (to heads-out next-out from heads-in next-in paths weak kinds low high : List ℕ) (width : ℕ) (allowance already : ℕ)
     (first : ItemState) (placed moved «open» order list : List ℕ) (w : ItemWalk) (made : ℕ) : Type 0 where
   pub state : ItemState
   pub walking : Walking g to heads-out next-out from heads-in next-in paths weak kinds low high width placed moved «open» order list w state
-  pub same : run (itemWalk g) itemListLimit (allowance - already) already first ≡ run (itemWalk g) itemListLimit (allowance - made) made state
+  pub same : run (itemWalk walked) itemListLimit (allowance - already) already first ≡ run (itemWalk walked) itemListLimit (allowance - made) made state
 
--- What a run comes to: its ending, or where the array is shorter than the limit, the state before a visit for which it may be too short.
-pub data Ran (g : Group) (to heads-out next-out from heads-in next-in paths weak kinds low high : List ℕ) (width n allowance already : ℕ)
-    (first : ItemState) (placed moved «open» order list : List ℕ) : Ending → Type 0 where
-  has-ended : {e : Ending} → Ended (run (itemWalk g) itemListLimit (allowance - already) already first) n order e
-      → Ran g to heads-out next-out from heads-in next-in paths weak kinds low high width n allowance already first placed moved «open» order list e
-  was-crowded : {w : ItemWalk} {made : ℕ} → length list < itemListLimit → made ≤ allowance
-      → Running g to heads-out next-out from heads-in next-in paths weak kinds low high width allowance already first placed moved «open» order list w made
-      → Ran g to heads-out next-out from heads-in next-in paths weak kinds low high width n allowance already first placed moved «open» order list
-      (Crowded w made)
+-- What a run comes to on an array of so many entries: its ending, or where they are fewer than the limit, that the next visit may need more.
+pub data Ran (entries : ℕ) (stop : Stop ItemState) (n : ℕ) (order : List ℕ) : Ending → Type 0 where
+  has-ended : {e : Ending} → Ended stop n order e → Ran entries stop n order e
+  was-crowded : entries < itemListLimit → Ran entries stop n order Crowded
 
 -- The parts of a visit.
 -- Bit b of row a is within the words, and its place does not wrap.
@@ -144,10 +144,10 @@ pub data Noted (k : ℕ) (old new : List ℕ) : Bool → Type 0 where
   had-moved : bitAt old k ≡ true → new ≡ old → Noted k old new true
 
 -- Step 2 for a dependency d of x: what it relies on, and what it gives: the pairs that have moved after it, and one step of the definition.
-pub record Skippable (g : Group) (pairs : List (ℕ × ℕ)) (paths moved : List ℕ) (width x d kind low high : ℕ) : Type 0 where
+pub record Skippable (g : Group) (pairs : List (ℕ × ℕ)) (paths moved : List ℕ) (width x d : ℕ) (kind : Kind) (low high : ℕ) : Type 0 where
   pub x-below : x < size g
   pub d-below : d < size g
-  pub kind-is : kind ≡ kindOf g x
+  pub kind-is : Says kind (kindOf g x)
   pub range-is : RangeIs g x low high
   pub paths-shown : Table (size g) width paths (pathHolds g)
   pub moved-shown : Table (size g) width moved (hasMoved pairs)
@@ -158,12 +158,12 @@ pub record Skipped (g : Group) (pairs : List (ℕ × ℕ)) (moved : List ℕ) (w
   pub step : (placed rest : List ℕ) → findOpen g placed x (d ∷ rest) pairs ≡ withOpen (not r && not (elem d placed)) d (findOpen g placed x rest after)
 
 -- Whether a dependency d of x that is not skipped stays: what that relies on, and the test.
-pub record Testable (g : Group) (items paths weak placed : List ℕ) (width x d kind : ℕ) : Type 0 where
+pub record Testable (g : Group) (items paths weak placed : List ℕ) (width x d : ℕ) (kind : Kind) : Type 0 where
   pub x-below : x < size g
   pub d-below : d < size g
-  pub kind-is : kind ≡ kindOf g x
+  pub kind-is : Says kind (kindOf g x)
   pub paths-shown : Table (size g) width paths (pathHolds g)
-  pub weak-shown : Table (size g) width weak (isWeak g)
+  pub weak-shown : Table (size g) width weak (isMaybe (reverse (g .needs)))
   pub placed-shown : Row (size g) placed (λ y. elem y items)
 
 unfoldable pub stays : Group → List ℕ → ℕ → ℕ → Bool
@@ -180,7 +180,7 @@ pub record Findable (g : Group) (items : List ℕ) (pairs : List (ℕ × ℕ)) (
   pub x-below : x < size g
   pub chained : Chained (dependenciesOf (g .needs)) (size g) to heads next
   pub paths-shown : Table (size g) width paths (pathHolds g)
-  pub weak-shown : Table (size g) width weak (isWeak g)
+  pub weak-shown : Table (size g) width weak (isMaybe (reverse (g .needs)))
   pub kinds-shown : Kinds g kinds
   pub ranges-shown : Ranges g low high
   pub placed-shown : Row (size g) placed (λ y. elem y items)

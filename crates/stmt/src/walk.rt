@@ -1,6 +1,11 @@
 // The item walk (iter): one visit, by the steps of the paper's 'Item walk', and a run of visits.
+use graph::rows;
 use lists::bits;
-use project::ItemId;
+use project::NodeId;
+use project::kinds::Kind;
+use project::kinds::kind_of;
+use split::Split;
+use split::first_list;
 ghost use Prim.Native.Nat.{ℕ, _+_, _*_, _-_, _≤_, _<_};
 ghost use mathlib.Core.Path.{_≡_};
 ghost use mathlib.Core.Bool.{false, not, _&&_};
@@ -9,12 +14,14 @@ ghost use lib.Dec.{eqb, ltb};
 ghost use lib.ListN.{length, getD, take, set};
 ghost use Rattle.rules.specs.Lists.{elem};
 ghost use Rattle.rules.specs.Project.{itemLimit};
-ghost use Rattle.rules.specs.Items.{isInjected, mayDrop, Group, ItemState, itemState, waiting, oneByOne, preceding as precedingOf, afterPreceding, visitItem, placedOf};
+ghost use Rattle.rules.specs.Items.{isInjected, Group, ItemState, itemState, waiting, oneByOne, preceding as precedingOf, afterPreceding, visitItem, placedOf, itemWalk};
+ghost use Rattle.rules.specs.Walk.{run as runs};
 ghost use Rattle.rules.specs.Calls.{itemListLimit};
 ghost use Rattle.lists.specs.Bits.{bitAt, Inserted};
 ghost use Rattle.lists.specs.Stacks.{stack};
 ghost use Rattle.laws.specs.Splits.{size};
-ghost use Rattle.stmt.specs.Walks.{Cell, Noted, Skippable, Skipped, Testable, stays as staysOpen, Findable, Found, Listed, Relisted, Awaited, Pushed, Precedable, First, Fits, Room, Front, Put, Settling, Walking, Came, Ran};
+ghost use Rattle.project.specs.Kinds.{injectedBy, mayDropBy};
+ghost use Rattle.stmt.specs.Walks.{Cell, Noted, Skippable, Skipped, Testable, stays as staysOpen, Findable, Found, Listed, Relisted, Awaited, Pushed, Precedable, First, Fits, Room, Front, Put, Settling, Walking, Startable, Started, SameVisits, Came, Ran};
 
 // The numbers of the walk's state: the end of the list and how many items are placed.
 pub struct ItemWalk {
@@ -29,51 +36,96 @@ pub enum Outcome {
     ListFull,
 }
 
-// How a run stopped, with the visits made; or that the next visit may need a longer array, with the numbers of the walk.
+// How a run stopped, with the visits made; or that the next visit may need a longer array.
 pub enum Ending {
     Finished(u32),
     Spent(u32),
     Full(u32),
-    Crowded(ItemWalk, u32),
+    Crowded,
 }
 
 impl ItemWalk {
     // The most entries that a visit may leave.
     pub const LIST: usize = 16384;
 
-    // The state before the first visit: the list holds `end` entries, nothing is placed.
-    pub fn new(end: usize) -> Self
-        ensures { λ r. ⌜ r ≡ record { end = end; placed = 0 } ⌝ }
+    // The state before the first visit: the list is the paper's first list, nothing is placed and no pair has moved. `starts` has one entry for each
+    // module, and a row of bits has `words` words. What the arrays hold beyond is left free.
+    pub fn new(
+        low: &[u16],
+        high: &[u16],
+        starts: &[u16],
+        s: Split,
+        words: usize,
+        placed: &mut [u64],
+        moved: &mut [u64],
+        list: &mut [u16],
+    ) -> Self
+        requires { ⌜ ((g : Group) × Startable g (now low) (now high) (now starts) s words (now placed) (now moved) (now list)) ⌝ }
+        ensures { λ r. ⌜ ((g : Group)
+            → Startable g (now (low .entry)) (now (high .entry)) (now (starts .entry)) s words (now (placed .entry)) (now (moved .entry)) (now (list .entry))
+            → Started g (64 * words) (now (placed .exit)) (now (moved .exit)) (now (list .exit)) r) ⌝ }
     {
+        rows::clear_words(placed, words);
+        rows::clear_words(moved, s.count * words);
+        let end = first_list(low, high, starts, s, list);
         Self { end, placed: 0 }
     }
 }
 
-// Whether an open dependency of an item of this kind may be dropped.
-fn may_drop(kind: u8, weak: bool) -> bool
-    ensures { λ r. ⌜ ((weight : ℕ) → weak ≡ eqb weight 1 → r ≡ mayDrop kind weight) ⌝ }
+// Whether items of a kind may drop dependencies of any weight.
+fn drops_all(kind: Kind) -> bool
+    ensures { λ r. ⌜ r ≡ mayDropBy kind 0 ⌝ }
 {
     match kind {
-        1..=2 => true,
-        3 => weak,
+        Kind::MayDropAll => true,
+        _ => false,
+    }
+}
+
+// Whether items of a kind may drop dependencies of weight Maybe alone.
+fn drops_weak(kind: Kind) -> bool
+    ensures { λ r. ⌜ r ≡ (mayDropBy kind 1 && not (mayDropBy kind 0)) ⌝ }
+{
+    match kind {
+        Kind::MayDropWeak => true,
+        _ => false,
+    }
+}
+
+// Whether an open dependency of an item of this kind may be dropped.
+fn may_drop(kind: Kind, weak: bool) -> bool
+    ensures { λ r. ⌜ ((weight : ℕ) → weak ≡ eqb weight 1 → r ≡ mayDropBy kind weight) ⌝ }
+{
+    if drops_all(kind) {
+        return true;
+    }
+    drops_weak(kind) && weak
+}
+
+// Whether items of a kind are injected.
+fn is_injected(kind: Kind) -> bool
+    ensures { λ r. ⌜ r ≡ injectedBy kind ⌝ }
+{
+    match kind {
+        Kind::Injected => true,
         _ => false,
     }
 }
 
 // Whether row a of a table of bits holds b.
-fn has_pair(words: &[u64], width: usize, a: u16, b: u16) -> bool
-    requires { ⌜ Cell width a b (now words) ⌝ }
-    ensures { λ r. ⌜ r ≡ bitAt (now (words .entry)) (a * width + b) ⌝ }
+fn has_pair(words: &[u64], width: usize, a: NodeId, b: NodeId) -> bool
+    requires { ⌜ Cell width (a .0) (b .0) (now words) ⌝ }
+    ensures { λ r. ⌜ r ≡ bitAt (now (words .entry)) (a .0 * width + b .0) ⌝ }
 {
-    bits::row_has(words, (a as usize) * width + b as usize)
+    bits::row_has(words, (a.0 as usize) * width + b.0 as usize)
 }
 
 // Notes the pair (x, d) as moved; whether it had moved already.
-fn note(moved: &mut [u64], width: usize, x: u16, d: u16) -> bool
-    requires { ⌜ Cell width x d (now moved) ⌝ }
-    ensures { λ r. ⌜ Noted (x * width + d) (now (moved .entry)) (now (moved .exit)) r ⌝ }
+fn note(moved: &mut [u64], width: usize, x: NodeId, d: NodeId) -> bool
+    requires { ⌜ Cell width (x .0) (d .0) (now moved) ⌝ }
+    ensures { λ r. ⌜ Noted (x .0 * width + d .0) (now (moved .entry)) (now (moved .exit)) r ⌝ }
 {
-    let k = (x as usize) * width + d as usize;
+    let k = (x.0 as usize) * width + d.0 as usize;
     if bits::row_has(moved, k) {
         return true;
     }
@@ -86,20 +138,21 @@ fn skips(
     paths: &[u64],
     moved: &mut [u64],
     width: usize,
-    x: u16,
-    d: u16,
-    kind: u8,
+    x: NodeId,
+    d: NodeId,
+    kind: Kind,
     low: u16,
     high: u16,
 ) -> bool
-    requires { ⌜ ((g : Group) × (pairs : List (ℕ × ℕ)) × Skippable g pairs (now paths) (now moved) width x d kind low high) ⌝ }
-    ensures { λ r. ⌜ ((g : Group) (pairs : List (ℕ × ℕ)) → Skippable g pairs (now (paths .entry)) (now (moved .entry)) width x d kind low high
-        → Skipped g pairs (now (moved .exit)) width x d r) ⌝ }
+    requires { ⌜ ((g : Group) × (pairs : List (ℕ × ℕ)) × Skippable g pairs (now paths) (now moved) width (x .0) (d .0) kind low high) ⌝ }
+    ensures { λ r. ⌜ ((g : Group) (pairs : List (ℕ × ℕ))
+        → Skippable g pairs (now (paths .entry)) (now (moved .entry)) width (x .0) (d .0) kind low high
+        → Skipped g pairs (now (moved .exit)) width (x .0) (d .0) r) ⌝ }
 {
-    if low <= d && d < high {
+    if low <= d.0 && d.0 < high {
         return true;
     }
-    if kind == 4 {
+    if is_injected(kind) {
         return false;
     }
     if !has_pair(paths, width, d, x) {
@@ -114,15 +167,15 @@ fn stays(
     weak: &[u64],
     placed: &[u64],
     width: usize,
-    x: u16,
-    d: u16,
-    kind: u8,
+    x: NodeId,
+    d: NodeId,
+    kind: Kind,
 ) -> bool
-    requires { ⌜ ((g : Group) × (items : List ℕ) × Testable g items (now paths) (now weak) (now placed) width x d kind) ⌝ }
-    ensures { λ r. ⌜ ((g : Group) (items : List ℕ) → Testable g items (now (paths .entry)) (now (weak .entry)) (now (placed .entry)) width x d kind
-        → r ≡ staysOpen g items x d) ⌝ }
+    requires { ⌜ ((g : Group) × (items : List ℕ) × Testable g items (now paths) (now weak) (now placed) width (x .0) (d .0) kind) ⌝ }
+    ensures { λ r. ⌜ ((g : Group) (items : List ℕ)
+        → Testable g items (now (paths .entry)) (now (weak .entry)) (now (placed .entry)) width (x .0) (d .0) kind → r ≡ staysOpen g items (x .0) (d .0)) ⌝ }
 {
-    if bits::row_has(placed, d as usize) {
+    if bits::row_has(placed, d.0 as usize) {
         return false;
     }
     if !has_pair(paths, width, d, x) {
@@ -145,28 +198,28 @@ fn find_open(
     placed: &[u64],
     moved: &mut [u64],
     open: &mut [u16],
-    x: u16,
+    x: NodeId,
 ) -> usize
     requires { ⌜ ((g : Group) × (items : List ℕ) × (pairs : List (ℕ × ℕ))
         × Findable g items pairs (now to) (now heads) (now next) (now paths) (now weak) (now kinds) (now low) (now high) width (now placed) (now moved)
-        (now «open») x) ⌝ }
+        (now «open») (x .0)) ⌝ }
     ensures { λ r. ⌜ ((g : Group) (items : List ℕ) (pairs : List (ℕ × ℕ))
         → Findable g items pairs (now (to .entry)) (now (heads .entry)) (now (next .entry)) (now (paths .entry)) (now (weak .entry))
-        (now (kinds .entry)) (now (low .entry)) (now (high .entry)) width (now (placed .entry)) (now (moved .entry)) (now («open» .entry)) x
-        → Found g items pairs width x (now (moved .exit)) (now («open» .exit)) r) ⌝ }
+        (now (kinds .entry)) (now (low .entry)) (now (high .entry)) width (now (placed .entry)) (now (moved .entry)) (now («open» .entry)) (x .0)
+        → Found g items pairs width (x .0) (now (moved .exit)) (now («open» .exit)) r) ⌝ }
 {
-    let at = x as usize;
-    let kind = kinds[at];
+    let at = x.0 as usize;
+    let kind = kind_of(kinds[at]);
     let start = low[at];
     let end = high[at];
     let mut n = 0;
     let mut e = heads[at] as usize;
     while e != 0 {
-        let d = to[e - 1];
+        let d = NodeId(to[e - 1]);
         if !skips(paths, moved, width, x, d, kind, start, end)
             && stays(paths, weak, placed, width, x, d, kind)
         {
-            open[n] = d;
+            open[n] = d.0;
             n += 1;
         }
         e = next[e - 1] as usize;
@@ -195,12 +248,12 @@ fn put_open(list: &mut [u16], open: &[u16], n: usize, w: ItemWalk) -> Outcome
 }
 
 // Whether a dependant d is waiting: it is injected and not placed.
-fn is_waiting(kinds: &[u8], placed: &[u64], d: u16) -> bool
-    requires { ⌜ (d < length (now kinds)) × (d < length (now placed) * 64) ⌝ }
-    ensures { λ r. ⌜ r ≡ (isInjected (getD (now (kinds .entry)) d 0) && not (bitAt (now (placed .entry)) d)) ⌝ }
+fn is_waiting(kinds: &[u8], placed: &[u64], d: NodeId) -> bool
+    requires { ⌜ (d .0 < length (now kinds)) × (d .0 < length (now placed) * 64) ⌝ }
+    ensures { λ r. ⌜ r ≡ (isInjected (getD (now (kinds .entry)) (d .0) 0) && not (bitAt (now (placed .entry)) (d .0))) ⌝ }
 {
-    let i = d as usize;
-    kinds[i] == 4 && !bits::row_has(placed, i)
+    let i = d.0 as usize;
+    is_injected(kind_of(kinds[i])) && !bits::row_has(placed, i)
 }
 
 // Pushes the unplaced injected dependants of x one by one; the end then, or one more than the limit where they do not fit.
@@ -212,24 +265,24 @@ fn push_waiting(
     placed: &[u64],
     list: &mut [u16],
     end: usize,
-    x: u16,
+    x: NodeId,
 ) -> usize
-    requires { ⌜ ((g : Group) × (items : List ℕ) × Awaited g items (now from) (now heads) (now next) (now kinds) (now placed) x
+    requires { ⌜ ((g : Group) × (items : List ℕ) × Awaited g items (now from) (now heads) (now next) (now kinds) (now placed) (x .0)
         × Fits (end + size g) (now list)) ⌝ }
     requires { ⌜ Listed (now list) end (stack (now list) end) ⌝ }
     ensures { λ r. ⌜ ((g : Group) (items : List ℕ)
-        → Awaited g items (now (from .entry)) (now (heads .entry)) (now (next .entry)) (now (kinds .entry)) (now (placed .entry)) x
-        → Pushed (oneByOne (waiting g items x) (stack (now (list .entry)) end)) (now (list .exit)) r) ⌝ }
+        → Awaited g items (now (from .entry)) (now (heads .entry)) (now (next .entry)) (now (kinds .entry)) (now (placed .entry)) (x .0)
+        → Pushed (oneByOne (waiting g items (x .0)) (stack (now (list .entry)) end)) (now (list .exit)) r) ⌝ }
 {
     let mut at = end;
-    let mut e = heads[x as usize] as usize;
+    let mut e = heads[x.0 as usize] as usize;
     while e != 0 {
-        let d = from[e - 1];
+        let d = NodeId(from[e - 1]);
         if is_waiting(kinds, placed, d) {
             if at == ItemWalk::LIST {
                 return ItemWalk::LIST + 1;
             }
-            list[at] = d;
+            list[at] = d.0;
             at += 1;
         }
         e = next[e - 1] as usize;
@@ -238,15 +291,16 @@ fn push_waiting(
 }
 
 // The first unplaced number below x in its range whose pair with x has not moved; x where there is none.
-fn preceding(placed: &[u64], moved: &[u64], width: usize, low: u16, x: u16) -> u16
-    requires { ⌜ ((g : Group) × (items : List ℕ) × (pairs : List (ℕ × ℕ)) × Precedable g items pairs (now placed) (now moved) width low x) ⌝ }
+fn preceding(placed: &[u64], moved: &[u64], width: usize, low: u16, x: NodeId) -> NodeId
+    requires { ⌜ ((g : Group) × (items : List ℕ) × (pairs : List (ℕ × ℕ)) × Precedable g items pairs (now placed) (now moved) width low (x .0)) ⌝ }
     ensures { λ r. ⌜ ((g : Group) (items : List ℕ) (pairs : List (ℕ × ℕ))
-        → Precedable g items pairs (now (placed .entry)) (now (moved .entry)) width low x → First x (precedingOf g items pairs x) r) ⌝ }
+        → Precedable g items pairs (now (placed .entry)) (now (moved .entry)) width low (x .0)
+        → First (x .0) (precedingOf g items pairs (x .0)) (r .0)) ⌝ }
 {
     let mut p = low;
-    while p < x {
-        if !bits::row_has(placed, p as usize) && !has_pair(moved, width, x, p) {
-            return p;
+    while p < x.0 {
+        if !bits::row_has(placed, p as usize) && !has_pair(moved, width, x, NodeId(p)) {
+            return NodeId(p);
         }
         p += 1;
     }
@@ -254,12 +308,12 @@ fn preceding(placed: &[u64], moved: &[u64], width: usize, low: u16, x: u16) -> u
 }
 
 // Places x.
-fn place(placed: &mut [u64], order: &mut [u16], n: usize, x: u16)
-    requires { ⌜ (x < length (now placed) * 64) × (n < length (now order)) ⌝ }
-    ensures { λ _. ⌜ Inserted x (now (placed .entry)) (now (placed .exit)) × (now (order .exit) ≡ set (now (order .entry)) n x) ⌝ }
+fn place(placed: &mut [u64], order: &mut [u16], n: usize, x: NodeId)
+    requires { ⌜ (x .0 < length (now placed) * 64) × (n < length (now order)) ⌝ }
+    ensures { λ _. ⌜ Inserted (x .0) (now (placed .entry)) (now (placed .exit)) × (now (order .exit) ≡ set (now (order .entry)) n (x .0)) ⌝ }
 {
-    bits::row_insert(placed, x as usize);
-    order[n] = x;
+    bits::row_insert(placed, x.0 as usize);
+    order[n] = x.0;
 }
 
 // Step 4: the unplaced injected dependants of the front item x go to the front in its place; x is placed.
@@ -272,7 +326,7 @@ fn place_injected(
     order: &mut [u16],
     list: &mut [u16],
     w: ItemWalk,
-    x: ItemId,
+    x: NodeId,
 ) -> Outcome
     requires { ⌜ ((g : Group) × (rest : List ℕ) × (items : List ℕ) × Awaited g items (now from) (now heads) (now next) (now kinds) (now placed) (x .0)
         × Front (size g) (now placed) (now order) (now list) w (x .0) rest items × Room (size g) (now list) (w .end)) ⌝ }
@@ -281,11 +335,11 @@ fn place_injected(
         → Front (size g) (now (placed .entry)) (now (order .entry)) (now (list .entry)) w (x .0) rest items
         → Put (size g) (oneByOne (waiting g items (x .0)) rest) (x .0 ∷ items) (now (placed .exit)) (now (order .exit)) (now (list .exit)) r) ⌝ }
 {
-    let end = push_waiting(from, heads, next, kinds, placed, list, w.end - 1, x.0);
+    let end = push_waiting(from, heads, next, kinds, placed, list, w.end - 1, x);
     if ItemWalk::LIST < end {
         return Outcome::ListFull;
     }
-    place(placed, order, w.placed, x.0);
+    place(placed, order, w.placed, x);
     Outcome::Placed(ItemWalk {
         end,
         placed: w.placed + 1,
@@ -301,22 +355,22 @@ fn put_preceding(
     placed: &[u64],
     list: &mut [u16],
     w: ItemWalk,
-    x: u16,
-    p: u16,
+    x: NodeId,
+    p: NodeId,
 ) -> Outcome
-    requires { ⌜ ((g : Group) × (items : List ℕ) × Awaited g items (now from) (now heads) (now next) (now kinds) (now placed) x
+    requires { ⌜ ((g : Group) × (items : List ℕ) × Awaited g items (now from) (now heads) (now next) (now kinds) (now placed) (x .0)
         × Room (size g) (now list) (w .end)) ⌝ }
     requires { ⌜ (0 < w .end) × Listed (now list) (w .end) (stack (now list) (w .end)) ⌝ }
     ensures { λ r. ⌜ ((g : Group) (items : List ℕ)
-        → Awaited g items (now (from .entry)) (now (heads .entry)) (now (next .entry)) (now (kinds .entry)) (now (placed .entry)) x
-        → Relisted (p ∷ x ∷ oneByOne (waiting g items x) (stack (now (list .entry)) (w .end - 1))) (w .placed) (now (list .exit)) r) ⌝ }
+        → Awaited g items (now (from .entry)) (now (heads .entry)) (now (next .entry)) (now (kinds .entry)) (now (placed .entry)) (x .0)
+        → Relisted (p .0 ∷ x .0 ∷ oneByOne (waiting g items (x .0)) (stack (now (list .entry)) (w .end - 1))) (w .placed) (now (list .exit)) r) ⌝ }
 {
     let end = push_waiting(from, heads, next, kinds, placed, list, w.end - 1, x);
     if ItemWalk::LIST < end + 2 {
         return Outcome::ListFull;
     }
-    list[end] = x;
-    list[end + 1] = p;
+    list[end] = x.0;
+    list[end + 1] = p.0;
     Outcome::WentOn(ItemWalk {
         end: end + 2,
         placed: w.placed,
@@ -336,7 +390,7 @@ fn visit_uninjected(
     order: &mut [u16],
     list: &mut [u16],
     w: ItemWalk,
-    x: ItemId,
+    x: NodeId,
 ) -> Outcome
     requires { ⌜ ((g : Group) × (rest : List ℕ) × (items : List ℕ) × (pairs : List (ℕ × ℕ))
         × Settling g (now from) (now heads) (now next) (now kinds) low width (now placed) (now moved) (now order) (now list) w (x .0) rest items pairs
@@ -347,16 +401,16 @@ fn visit_uninjected(
         → Came g items (afterPreceding g (x .0) rest items pairs (precedingOf g items pairs (x .0))) width (now (placed .exit)) (now (moved .exit))
         (now (order .exit)) (now (list .exit)) r) ⌝ }
 {
-    let p = preceding(placed, moved, width, low, x.0);
-    if p == x.0 {
-        place(placed, order, w.placed, x.0);
+    let p = preceding(placed, moved, width, low, x);
+    if p.0 == x.0 {
+        place(placed, order, w.placed, x);
         return Outcome::Placed(ItemWalk {
             end: w.end - 1,
             placed: w.placed + 1,
         });
     }
-    note(moved, width, x.0, p);
-    put_preceding(from, heads, next, kinds, placed, list, w, x.0, p)
+    note(moved, width, x, p);
+    put_preceding(from, heads, next, kinds, placed, list, w, x, p)
 }
 
 // Steps 2 to 5 for the front item x, which is not placed.
@@ -379,7 +433,7 @@ fn visit_unplaced(
     order: &mut [u16],
     list: &mut [u16],
     w: ItemWalk,
-    x: ItemId,
+    x: NodeId,
 ) -> Outcome
     requires { ⌜ ((g : Group) × (rest : List ℕ) × (items : List ℕ) × (pairs : List (ℕ × ℕ)) × (elem (x .0) items ≡ false)
         × Walking g (now to) (now «heads_out») (now «next_out») (now from) (now «heads_in») (now «next_in») (now paths) (now weak) (now kinds) (now low)
@@ -405,13 +459,13 @@ fn visit_unplaced(
         placed,
         moved,
         open,
-        x.0,
+        x,
     );
     if 0 < n {
         return put_open(list, open, n, w);
     }
     let at = x.0 as usize;
-    if kinds[at] == 4 {
+    if is_injected(kind_of(kinds[at])) {
         return place_injected(from, heads_in, next_in, kinds, placed, order, list, w, x);
     }
     visit_uninjected(
@@ -430,7 +484,8 @@ fn visit_unplaced(
     )
 }
 
-// One visit. `list` holds w.end entries, at least one. What `open` holds at exit is left free.
+// One visit. `list` holds w.end entries, at least one. What `open` holds at exit is left free. The arrays may lay out another group than the one
+// that is walked, where its visits are the same.
 pub fn visit(
     to: &[u16],
     heads_out: &[u16],
@@ -455,15 +510,15 @@ pub fn visit(
     requires { ⌜ ((g : Group) × (s : ItemState)
         × Walking g (now to) (now «heads_out») (now «next_out») (now from) (now «heads_in») (now «next_in») (now paths) (now weak) (now kinds) (now low)
         (now high) width (now placed) (now moved) (now «open») (now order) (now list) w s × Room (size g) (now list) (w .end)) ⌝ }
-    ensures { λ r. ⌜ ((g : Group) (s : ItemState)
+    ensures { λ r. ⌜ ((g walked : Group) (s : ItemState) → SameVisits g walked
         → Walking g (now (to .entry)) (now («heads_out» .entry)) (now («next_out» .entry)) (now (from .entry)) (now («heads_in» .entry))
         (now («next_in» .entry)) (now (paths .entry)) (now (weak .entry)) (now (kinds .entry)) (now (low .entry)) (now (high .entry)) width
         (now (placed .entry)) (now (moved .entry)) (now («open» .entry)) (now (order .entry)) (now (list .entry)) w s
-        → Came g (placedOf s) (visitItem g s) width (now (placed .exit)) (now (moved .exit)) (now (order .exit)) (now (list .exit)) r) ⌝ }
+        → Came walked (placedOf s) (visitItem walked s) width (now (placed .exit)) (now (moved .exit)) (now (order .exit)) (now (list .exit)) r) ⌝ }
 {
     let top = w.end - 1;
-    let x = list[top];
-    if bits::row_has(placed, x as usize) {
+    let x = NodeId(list[top]);
+    if bits::row_has(placed, x.0 as usize) {
         return Outcome::WentOn(ItemWalk {
             end: top,
             placed: w.placed,
@@ -488,7 +543,7 @@ pub fn visit(
         order,
         list,
         w,
-        ItemId(x),
+        x,
     )
 }
 
@@ -529,13 +584,11 @@ pub fn run(
     requires { ⌜ ((g : Group) × (s : ItemState) × (n ≡ size g)
         × Walking g (now to) (now «heads_out») (now «next_out») (now from) (now «heads_in») (now «next_in») (now paths) (now weak) (now kinds) (now low)
         (now high) width (now placed) (now moved) (now «open») (now order) (now list) start s) ⌝ }
-    ensures { λ r. ⌜ ((g : Group) (s : ItemState) → n ≡ size g
+    ensures { λ r. ⌜ ((g walked : Group) (s : ItemState) → n ≡ size g → SameVisits g walked
         → Walking g (now (to .entry)) (now («heads_out» .entry)) (now («next_out» .entry)) (now (from .entry)) (now («heads_in» .entry))
         (now («next_in» .entry)) (now (paths .entry)) (now (weak .entry)) (now (kinds .entry)) (now (low .entry)) (now (high .entry)) width
         (now (placed .entry)) (now (moved .entry)) (now («open» .entry)) (now (order .entry)) (now (list .entry)) start s
-        → Ran g (now (to .entry)) (now («heads_out» .entry)) (now («next_out» .entry)) (now (from .entry)) (now («heads_in» .entry))
-        (now («next_in» .entry)) (now (paths .entry)) (now (weak .entry)) (now (kinds .entry)) (now (low .entry)) (now (high .entry)) width n allowance
-        already s (now (placed .exit)) (now (moved .exit)) (now («open» .exit)) (now (order .exit)) (now (list .exit)) r) ⌝ }
+        → Ran (length (now (list .entry))) (runs (itemWalk walked) itemListLimit (allowance - already) already s) n (now (order .exit)) r) ⌝ }
 {
     let mut w = start;
     let mut made = already;
@@ -547,7 +600,7 @@ pub fn run(
             return Ending::Spent(made);
         }
         if is_crowded(list.len(), w.end, n) {
-            return Ending::Crowded(w, made);
+            return Ending::Crowded;
         }
         made += 1;
         let o = visit(

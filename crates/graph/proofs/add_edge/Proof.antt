@@ -5,6 +5,12 @@ use Rattle.graph.specs.GraphLaws.{space-sized, edge-added}
 use Rattle.graph.proofs.add_edge.Statement.{statement}
 use Rattle.graph.proofs.add_edge.Tie as tie
 
+cast-a : tie.Need-cast-a
+cast-a c = search needs
+
+cast-b : tie.Need-cast-b
+cast-b c = search needs
+
 mul-add : tie.Need-mul-add
 mul-add c = search needs
 
@@ -14,9 +20,9 @@ add-requires c κs = search needs
 set-weight-requires : tie.Need-set-weight-requires
 set-weight-requires c κs =
     let added = c .before .before .before .before .before .before .before in
-    let start = added .before .before .before .before .before .before .before .before .before .before .before in
+    let start = added .before .before .before .before .before .before .before .before .before .before .before .before .before in
     let rows = start .pre .space .weak-rows in
-    place rows (start .args .x) (start .args .y) (start .pre .first) (column rows (start .pre .second))
+    place rows (start .args .x .0) (start .args .y .0) (start .pre .first) (column rows (start .pre .second))
 
 insert-transitives-requires : tie.Need-insert-transitives-requires
 insert-transitives-requires c κs = search needs
@@ -47,7 +53,7 @@ returns c =
     let way = c .before .before .before .before .before .before in
     let weak = way .before .before .before .before .before .before in
     let pairs = weak .before .before .before .before .before .before .before .before in
-    let start = pairs .before .before .before .before .before .before .before .before .before .before .before in
+    let start = pairs .before .before .before .before .before .before .before .before .before .before .before .before .before in
     edge-added (start .args .weight) (start .pre)
     (space-sized (start .pre .space) (pairs .add .kept .0) (weak .set-weight .kept .0) (way .insert-transitives .kept .1 .0)
     (way .insert-transitives .kept .1 .1 .0) (way .insert-transitives .kept .0))
@@ -57,6 +63,8 @@ pub add-edge-spec : {M : Type 1} → statement M
 add-edge-spec =
     tie.close
     (tie.spec
+    cast-a
+    cast-b
     mul-add
     add-requires
     set-weight-requires

@@ -1,12 +1,11 @@
 -- `order::keep_groups` meets its contract. The loop's invariant: the groups so far had their turns. The measure is the number of groups left. Assumes
 -- nothing.
-use Prim.Native.Nat.{ℕ, _<_}
-use borrow.Author.Needs.{needs}
+use Prim.Native.Nat.{ℕ}
 use native.Mathlib.Omega.{arith}
-use mathlib.Core.Path.{_≡_, refl, sym, ap, _∙_}
+use mathlib.Core.Path.{_≡_, refl, sym, _∙_}
 use mathlib.Core.List.{List}
 use lib.ListN.{length}
-use Rattle.rules.specs.Project.{Project, itemLimit}
+use Rattle.rules.specs.Project.{Project}
 use Rattle.order.specs.Orders.{Ready, Took, Turning}
 use Rattle.owners.specs.GroupBytes.{membersAt}
 use Rattle.giving.specs.StoreLaws.{stored-size}

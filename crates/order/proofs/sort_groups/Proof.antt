@@ -1,11 +1,8 @@
 -- `order::sort_groups` meets its contract: its parts in turn. Assumes nothing.
-use Prim.Native.Nat.{ℕ}
 use borrow.Author.Needs.{needs}
-use mathlib.Core.Path.{_≡_, refl}
-use mathlib.Core.List.{List}
-use Rattle.rules.specs.Project.{Project, moduleLimit}
+use mathlib.Core.Path.{refl}
+use Rattle.rules.specs.Project.{moduleLimit}
 use Rattle.lists.specs.ArrayLaws.{zeros-replicate}
-use Rattle.order.specs.Orders.{Orderable, Ready, Turning}
 use Rattle.order.specs.LoopLaws.{turn-end}
 use Rattle.order.specs.ReadyLaws.{importers-below, items-below, chainable, ready, resuming}
 use Rattle.order.proofs.sort_groups.Statement.{statement}

@@ -1,6 +1,6 @@
 -- `order::sort_turns` meets its contract. The loop's invariant: the groups so far had their turns, and the arrays keep their sizes. The measure is the
 -- number of groups left. Assumes nothing.
-use Prim.Native.Nat.{ℕ, _<_}
+use Prim.Native.Nat.{ℕ}
 use borrow.Author.Needs.{needs}
 use native.Mathlib.Omega.{arith}
 use mathlib.Core.Path.{_≡_, refl, sym, ap, _∙_}
@@ -8,7 +8,7 @@ use mathlib.Core.Logic.{_⊎_, ⊎-elim}
 use mathlib.Core.List.{List}
 use lib.ListN.{length}
 use denote.Enum.Declared.{tagOf}
-use Rattle.rules.specs.Project.{Project, moduleLimit, itemLimit}
+use Rattle.rules.specs.Project.{Project, moduleLimit}
 use Rattle.owners.specs.GroupBytes.{membersAt}
 use Rattle.group.proofs.Ending.{the-type}
 use Rattle.group.specs.declared.Ending.{Ending}

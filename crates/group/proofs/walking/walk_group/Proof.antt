@@ -5,9 +5,9 @@ use mathlib.Core.Path.{refl, sym, _∙_}
 use lib.ListN.{length}
 use lib.Seq.{length-take-le}
 use borrow.Author.Needs.{needs}
-use Rattle.rules.specs.Calls.{itemListLimit}
+use Rattle.rules.specs.Items.{groupOf}
 use Rattle.group.specs.Walking.{askedGroup}
-use Rattle.group.specs.AskedLaws.{asked-needs, ends-asked}
+use Rattle.group.specs.AskedLaws.{asked-needs}
 use Rattle.group.specs.WalkingLaws.{items-most, lay-room, walkable}
 use Rattle.group.proofs.walking.walk_group.Statement.{statement}
 use Rattle.group.proofs.walking.walk_group.Tie as tie
@@ -52,7 +52,7 @@ walk-items-requires c κs =
     let space = start .pre .1 .2 in
     let asked = asked-needs able (found .first-asked .ensures) in
     let shown = laid .lay-needs .ensures (asked .own) (asked .along) (lay-room able asked space) in
-    (start .pre .0, (askedGroup (start .pre .1 .0) (start .args .modules .now) (asked .own), walkable able asked space shown (laid .lay-needs .kept .1 .1 .1 .1 .1 .1 .1 .1 .1 .1 .0) refl))
+    (start .pre .0, (askedGroup (start .pre .1 .0) (start .args .modules .now) (asked .own), groupOf (start .pre .1 .0) (start .args .modules .now), walkable able asked space shown (laid .lay-needs .kept .1 .1 .1 .1 .1 .1 .1 .1 .1 .1 .0) refl))
 
 same-length : tie.Need-same-length
 same-length c = (layout-of (c .before .before .before .before .before .before .before .before .before .before)) .lay-needs .kept .1 .1 .1 .1 .1 .1 .1 .0
@@ -110,8 +110,7 @@ returns c =
     λ p able space.
     let asked = asked-needs able (found .first-asked .ensures) in
     let shown = laid .lay-needs .ensures (asked .own) (asked .along) (lay-room able asked space) in
-    ends-asked asked itemListLimit (start .args .allowance - start .args .already) (start .args .already)
-    (walked .walk-items .ensures (askedGroup p (start .args .modules .now) (asked .own)) (walkable able asked space shown (laid .lay-needs .kept .1 .1 .1 .1 .1 .1 .1 .1 .1 .1 .0) refl))
+    walked .walk-items .ensures (askedGroup p (start .args .modules .now) (asked .own)) (groupOf p (start .args .modules .now)) (walkable able asked space shown (laid .lay-needs .kept .1 .1 .1 .1 .1 .1 .1 .1 .1 .1 .0) refl)
 
 pub walk-group-spec : {M : Type 1} → statement M
 walk-group-spec =

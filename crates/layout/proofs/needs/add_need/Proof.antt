@@ -15,7 +15,7 @@ returns c =
     let start = c .before .before .before .before .before .before .before .before .before .before .before in
     let rows = take (start .args .n) (start .args .rows .now) in
     λ graph room.
-    rw (no-dependant rows (start .args .a) (start .args .b) (start .args .weight) graph (sym (c .before .number-in-group .ensures) ∙ c .if1 .taken)) (room .shows)
+    rw (no-dependant rows (start .args .need .dependant .0) (start .args .need .dependency .0) (start .args .need .weight) graph (sym (c .before .number-in-group .ensures) ∙ c .if1 .taken)) (room .shows)
 
 number-in-group-requires-2 : tie.Need-number-in-group-requires-2
 number-in-group-requires-2 c κs = search needs
@@ -25,13 +25,13 @@ returns-2 c =
     let start = c .before .before .before .before .before .before .before .before .before .before .before .before .before in
     let rows = take (start .args .n) (start .args .rows .now) in
     λ graph room.
-    rw (no-dependency rows (start .args .a) (start .args .b) (start .args .weight) graph (sym (c .before .number-in-group2 .ensures) ∙ c .if2 .taken)) (room .shows)
+    rw (no-dependency rows (start .args .need .dependant .0) (start .args .need .dependency .0) (start .args .need .weight) graph (sym (c .before .number-in-group2 .ensures) ∙ c .if2 .taken)) (room .shows)
 
-sub-add-edge : tie.Need-sub-add-edge
-sub-add-edge c = search needs
+sub-t31 : tie.Need-sub-t31
+sub-t31 c = search needs
 
-sub-add-edge-2 : tie.Need-sub-add-edge-2
-sub-add-edge-2 c = search needs
+sub-t33 : tie.Need-sub-t33
+sub-t33 c = search needs
 
 add-edge-requires : tie.Need-add-edge-requires
 add-edge-requires c κs =
@@ -39,8 +39,8 @@ add-edge-requires c κs =
     let first = second .before .before in
     let start = first .before .before .before .before .before .before .before .before .before .before in
     let rows = take (start .args .n) (start .args .rows .now) in
-    need-room rows (start .args .a) (start .args .b) (start .args .weight) (start .pre .1 .0) (first .number-in-group .ensures) (second .number-in-group2 .ensures)
-    (second .before .if1 .left) (c .before .before .before .before .before .before .before .if2 .left) (length-take-le (start .args .n) (start .args .rows .now) (start .pre .0 .rows-size)) (start .pre .1 .1)
+    need-room rows (start .args .need .dependant .0) (start .args .need .dependency .0) (start .args .need .weight) (start .pre .1 .0) (first .number-in-group .ensures) (second .number-in-group2 .ensures)
+    (second .before .if1 .left) (c .before .before .before .before .before .before .before .if2 .left) (length-take-le (start .args .n) (start .args .rows .now) (start .pre .0 .0 .rows-size)) (start .pre .1 .1)
 
 same-length : tie.Need-same-length
 same-length c = search needs
@@ -70,8 +70,8 @@ returns-3 c =
     let start = first .before .before .before .before .before .before .before .before .before .before in
     let rows = take (start .args .n) (start .args .rows .now) in
     λ graph room.
-    need-shown rows (start .args .a) (start .args .b) (start .args .weight) graph (first .number-in-group .ensures) (second .number-in-group2 .ensures)
-    (second .before .if1 .left) (c .before .before .before .before .before .before .before .before .before .before .before .before .before .before .before .before .before .before .before .before .before .before .if2 .left) (length-take-le (start .args .n) (start .args .rows .now) (start .pre .0 .rows-size)) room
+    need-shown rows (start .args .need .dependant .0) (start .args .need .dependency .0) (start .args .need .weight) graph (first .number-in-group .ensures) (second .number-in-group2 .ensures)
+    (second .before .if1 .left) (c .before .before .before .before .before .before .before .before .before .before .before .before .before .before .before .before .before .before .before .before .before .before .if2 .left) (length-take-le (start .args .n) (start .args .rows .now) (start .pre .0 .0 .rows-size)) room
     (c .before .before .before .before .before .before .before .before .before .before .before .before .before .before .add-edge .ensures)
 
 pub add-need-spec : {M : Type 1} → statement M
@@ -82,8 +82,8 @@ add-need-spec =
     returns
     number-in-group-requires-2
     returns-2
-    sub-add-edge
-    sub-add-edge-2
+    sub-t31
+    sub-t33
     add-edge-requires
     same-length
     same-length-2

@@ -3,11 +3,11 @@
 use native.Mathlib.Omega.{arith}
 use mathlib.Core.Path.{_≡_, refl, _∙_}
 use mathlib.Core.List.{List}
-use Prim.Native.Nat.{ℕ, _-_, _≤_, _<_}
+use Prim.Native.Nat.{ℕ, _+_, _*_, _-_, _≤_, _<_}
 use lib.ListN.{length, take}
-use Rattle.rules.specs.Project.{Need, needLimit}
+use Rattle.rules.specs.Project.{Need, itemLimit, needLimit}
 use Rattle.lists.specs.ChainLaws.{left}
-use Rattle.owners.specs.Owners.{needAt, NeedsAlong}
+use Rattle.owners.specs.Owners.{NeedsAlong}
 use Rattle.graph.specs.Graph.{matrices}
 use Rattle.layout.specs.Needs.{NeedsRoom, Adding}
 use Rattle.layout.specs.NeedLaws.{needs-less, adding-start, adding-room, adding-next, adding-end}
@@ -55,84 +55,79 @@ loop-holds c = (
 sub-i : tie.Need-sub-i Inv-loop μ-loop
 sub-i c = omega arith
 
-mul-dependant : tie.Need-mul-dependant Inv-loop μ-loop
-mul-dependant c = omega (arith, most (c .before), along (c .before) .most)
+mul-need-at : tie.Need-mul-need-at Inv-loop μ-loop
+mul-need-at c = omega (arith, most (c .before), along (c .before) .most)
 
-shared-slice-read-dependant : tie.Need-shared-slice-read-dependant Inv-loop μ-loop
-shared-slice-read-dependant c = omega (arith, most (c .before .before), along (c .before .before) .within)
+need-at-requires : tie.Need-need-at-requires Inv-loop μ-loop
+need-at-requires c κs = omega (arith, most (c .before), along (c .before) .within)
 
-mul-dependency : tie.Need-mul-dependency Inv-loop μ-loop
-mul-dependency c = omega (arith, most (c .before .before), along (c .before .before) .most)
-
-add-dependency : tie.Need-add-dependency Inv-loop μ-loop
-add-dependency c = omega (arith, most (c .before .before), along (c .before .before) .most)
-
-shared-slice-read-dependency : tie.Need-shared-slice-read-dependency Inv-loop μ-loop
-shared-slice-read-dependency c = omega (arith, most (c .before .before .before), along (c .before .before .before) .within)
-
-mul-weight : tie.Need-mul-weight Inv-loop μ-loop
-mul-weight c = omega (arith, most (c .before .before .before), along (c .before .before .before) .most)
-
-add-weight : tie.Need-add-weight Inv-loop μ-loop
-add-weight c = omega (arith, most (c .before .before .before), along (c .before .before .before) .most)
-
-shared-slice-read-weight : tie.Need-shared-slice-read-weight Inv-loop μ-loop
-shared-slice-read-weight c = omega (arith, most (c .before .before .before .before), along (c .before .before .before .before) .within)
+-- the need that was read: its items are bytes of the section
+read-need : (c : tie.After-need-at Inv-loop μ-loop)
+    → (c .need-at .result .dependant .0 < itemLimit) × (c .need-at .result .dependency .0 < itemLimit)
+read-need c =
+    let known = c .before .before .before .before .before .before .before .before .before .before .before .before .before .shared-slice-known .given in
+    let i = c .before .before .loop .e - 1 in
+    rw (c .need-at .ensures) (omega (arith, known (3 * i)), omega (arith, known (3 * i + 1)))
 
 add-need-requires : tie.Need-add-need-requires Inv-loop μ-loop
 add-need-requires c κs =
-    let turn = c .before .before .before .before .before .before .before .before .before .before in
-    let head = turn .before in
+    let reading = c .before .before .before .before .before .before .before in
+    let head = reading .before .before in
     let start = entry head in
     let own = start .pre .1 in
     let a = head .loop .inv .1 (own .0) (own .1) (own .2) in (
-      start .pre .0,
+      (start .pre .0, read-need reading .0, read-need reading .1),
       (
         a .graph,
-        adding-room (own .1) a (omega arith) (omega (arith, own .2 .from-room, head .loop .inv .0 .of-from))
+        adding-room (own .1) a (omega (arith, reading .before .loop-test .taken)) (omega (arith, own .2 .from-room, head .loop .inv .0 .of-from))
             (omega (arith, own .2 .to-room, head .loop .inv .0 .of-to)),
       ),
     )
 
+-- the turn behind the needs added, and the loop's head
+abbrev turn-of : tie.After-slice-known14 Inv-loop μ-loop → tie.In-loop Inv-loop μ-loop
+turn-of c = c .before .before .before .before .before .before .before .before .before .before .before .before .before .before .before .before .before .before .before .before .before .before .before
+
 mul-e : tie.Need-mul-e Inv-loop μ-loop
-mul-e c = let head = c .before .before .before .before .before .before .before .before .before .before .before .before .before .before .before .before .before .before .before .before .before .before .before .before .before .before in omega (arith, most head, along head .most)
+mul-e c = let head = turn-of c .before in omega (arith, most head, along head .most)
 
 shared-slice-read-e : tie.Need-shared-slice-read-e Inv-loop μ-loop
 shared-slice-read-e c =
-    let head = c .before .before .before .before .before .before .before .before .before .before .before .before .before .before .before .before .before .before .before .before .before .before .before .before .before .before .before in
-    omega (arith, most head, along head .next-size, c .before .before .before .before .before .before .before .before .before .before .before .before .before .before .before .before .before .before .before .before .before .before .before .before .before .before .loop-test .taken)
+    let turn = turn-of (c .before) in
+    omega (arith, most (turn .before), along (turn .before) .next-size, turn .loop-test .taken)
 
 cast-e : tie.Need-cast-e Inv-loop μ-loop
 cast-e c =
-    let head = c .before .before .before .before .before .before .before .before .before .before .before .before .before .before .before .before .before .before .before .before .before .before .before .before .before .before .before in
-    let more = c .before .before .before .before .before .before .before .before .before .before .before .before .before .before .before .before .before .before .before .before .before .before .before .before .before .before .loop-test .taken in
-    omega (arith, along head .next-onward (head .loop .e - 1) (omega (arith, most head, more)) .1, along head .most)
+    let turn = turn-of (c .before) in
+    let head = turn .before in
+    omega (arith, along head .next-onward (head .loop .e - 1) (omega (arith, most head, turn .loop-test .taken)) .1, along head .most)
 
 loop-less : tie.Need-loop-less Inv-loop μ-loop
 loop-less c =
-    let turn = c .before .before .before .before .before .before .before .before .before .before .before .before .before .before .before .before .before .before .before .before .before .before .before .before .before .before in
+    let turn = turn-of (c .before) in
     needs-less (along (turn .before)) (turn .before .loop .e) (omega (arith, turn .loop-test .taken)) (most (turn .before))
 
 loop-again : tie.Need-loop-again Inv-loop μ-loop
-unfolding needAt
 loop-again c =
-    let turn = c .before .before .before .before .before .before .before .before .before .before .before .before .before .before .before .before .before .before .before .before .before .before .before .before .before .before in
+    let turn = turn-of (c .before) in
     let head = turn .before in
-    let added = c .before .before .before .before .before .before .before .before .before .before .before .before .before .before .before .add-need in (
+    let adding = c .before .before .before .before .before .before .before .before .before .before .before .before .before .before .before in
+    let row = adding .before .before .before .before .before .before .before .before .need-at .ensures in
+    let added = adding .add-need in (
       record {
-        of-seen = added .kept .1 .1 .1 .1 .1 .1 .1 .0 ∙ head .loop .inv .0 .of-seen;
-        of-weak = added .kept .1 .1 .1 .1 .1 .1 .1 .1 .0 ∙ head .loop .inv .0 .of-weak;
-        of-reach = added .kept .1 .1 .1 .1 .1 .1 .1 .1 .1 .0 ∙ head .loop .inv .0 .of-reach;
-        of-into = added .kept .1 .1 .1 .1 .1 .1 .1 .1 .1 .1 .0 ∙ head .loop .inv .0 .of-into;
-        of-paths = added .kept .1 .1 .1 .1 .1 .1 .1 .1 .1 .1 .1 .0 ∙ head .loop .inv .0 .of-paths;
-        of-from = added .kept .1 .1 .1 .1 .1 .1 .1 .1 .1 .1 .1 .1 .0 ∙ head .loop .inv .0 .of-from;
-        of-to = added .kept .1 .1 .1 .1 .1 .1 .1 .1 .1 .1 .1 .1 .1 .0 ∙ head .loop .inv .0 .of-to;
+        of-seen = added .kept .1 .1 .1 .1 .1 .0 ∙ head .loop .inv .0 .of-seen;
+        of-weak = added .kept .1 .1 .1 .1 .1 .1 .0 ∙ head .loop .inv .0 .of-weak;
+        of-reach = added .kept .1 .1 .1 .1 .1 .1 .1 .0 ∙ head .loop .inv .0 .of-reach;
+        of-into = added .kept .1 .1 .1 .1 .1 .1 .1 .1 .0 ∙ head .loop .inv .0 .of-into;
+        of-paths = added .kept .1 .1 .1 .1 .1 .1 .1 .1 .1 .0 ∙ head .loop .inv .0 .of-paths;
+        of-from = added .kept .1 .1 .1 .1 .1 .1 .1 .1 .1 .1 .0 ∙ head .loop .inv .0 .of-from;
+        of-to = added .kept .1 .1 .1 .1 .1 .1 .1 .1 .1 .1 .1 .0 ∙ head .loop .inv .0 .of-to;
       },
       λ own a r.
           let s = head .loop .inv .1 own a r in
           let more : 0 < head .loop .e = omega (arith, turn .loop-test .taken) in
           let room = adding-room a s more (omega (arith, r .from-room, head .loop .inv .0 .of-from)) (omega (arith, r .to-room, head .loop .inv .0 .of-to)) in
-          adding-next a s more (added .ensures (s .graph) room),
+          adding-next a s more row (added .ensures (s .graph) room),
     )
 
 same-length : tie.Need-same-length Inv-loop μ-loop
@@ -167,14 +162,8 @@ add-needs-spec =
     μ-loop
     loop-holds
     sub-i
-    mul-dependant
-    shared-slice-read-dependant
-    mul-dependency
-    add-dependency
-    shared-slice-read-dependency
-    mul-weight
-    add-weight
-    shared-slice-read-weight
+    mul-need-at
+    need-at-requires
     add-need-requires
     mul-e
     shared-slice-read-e

@@ -1,23 +1,42 @@
 -- `stmt::walk::is_waiting` meets its contract. Assumes nothing.
 use borrow.Author.Needs.{needs}
-use borrow.Author.Tests.{eq-eqb, ne-eqb}
-use Rattle.rules.specs.Items.{isInjected}
+use mathlib.Core.Path.{sym, _∙_}
 use Rattle.stmt.proofs.walk.is_waiting.Statement.{statement}
 use Rattle.stmt.proofs.walk.is_waiting.Tie as tie
 
-shared-slice-read-if1 : tie.Need-shared-slice-read-if1
-shared-slice-read-if1 c = search needs
+cast-i : tie.Need-cast-i
+cast-i c = search needs
+
+shared-slice-read-kind-of : tie.Need-shared-slice-read-kind-of
+shared-slice-read-kind-of c = search needs
+
+kind-of-requires : tie.Need-kind-of-requires
+kind-of-requires c κs = search needs
+
+is-injected-requires : tie.Need-is-injected-requires
+is-injected-requires c κs = search needs
 
 row-has-requires : tie.Need-row-has-requires
 row-has-requires c κs = search needs
 
 returns : tie.Need-returns
-unfolding isInjected
-returns c = rw (← c .row-has .ensures, eq-eqb _ 4 (c .before .if1 .taken))
+returns c =
+    let test = c .before .before in
+    rw (← c .row-has .ensures, test .before .kind-of .ensures .injected ∙ sym (test .is-injected .ensures) ∙ c .before .if1 .taken)
 
 returns-2 : tie.Need-returns-2
-unfolding isInjected
-returns-2 c = rw (ne-eqb _ 4 (c .if1 .left))
+returns-2 c =
+    let test = c .before in
+    rw (test .before .kind-of .ensures .injected ∙ sym (test .is-injected .ensures) ∙ c .if1 .left) (c .if1 .left)
 
 pub is-waiting-spec : {M : Type 1} → statement M
-is-waiting-spec = tie.close (tie.spec shared-slice-read-if1 row-has-requires returns returns-2)
+is-waiting-spec =
+    tie.close
+    (tie.spec
+    cast-i
+    shared-slice-read-kind-of
+    kind-of-requires
+    is-injected-requires
+    row-has-requires
+    returns
+    returns-2)

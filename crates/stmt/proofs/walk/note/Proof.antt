@@ -5,8 +5,14 @@ use Rattle.stmt.specs.Walks.{noted, had-moved}
 use Rattle.stmt.proofs.walk.note.Statement.{statement}
 use Rattle.stmt.proofs.walk.note.Tie as tie
 
+cast-k : tie.Need-cast-k
+cast-k c = search needs
+
 mul-k : tie.Need-mul-k
 mul-k c = search needs
+
+cast-k-2 : tie.Need-cast-k-2
+cast-k-2 c = search needs
 
 add-k : tie.Need-add-k
 add-k c = search needs
@@ -35,7 +41,9 @@ pub note-spec : {M : Type 1} → statement M
 note-spec =
     tie.close
     (tie.spec
+    cast-k
     mul-k
+    cast-k-2
     add-k
     row-has-requires
     same-length

@@ -45,7 +45,7 @@ room c =
     let most : called .push-waiting .result + 2 ≤ itemListLimit = omega arith in (
       most,
       pushed-room 2 (last + size g + 1) (called .push-waiting .ensures g items a) most
-          (omega (arith, waiting-entries (a .formed) items (start .args .x) list (last - 1), start .pre .1 .0))
+          (omega (arith, waiting-entries (a .formed) items (start .args .x .0) list (last - 1), start .pre .1 .0))
           (λ k h f. omega (arith, start .pre .0 .3 k h f, called .push-waiting .kept .1 .1 .1 .1 .1 .0)),
     )
 
@@ -73,7 +73,7 @@ same-length-2 c = search needs
 returns-2 : tie.Need-returns-2
 returns-2 c g items a =
     let given = c .before .before .before .before .before .before .before .before .before .before .before .before .args in
-    relisted (pushed-two (given .x) (given .p) (c .before .before .before .push-waiting .ensures g items a) (room c .0) (room c .1))
+    relisted (pushed-two (given .x .0) (given .p .0) (c .before .before .before .push-waiting .ensures g items a) (room c .0) (room c .1))
 
 pub put-preceding-spec : {M : Type 1} → statement M
 put-preceding-spec =

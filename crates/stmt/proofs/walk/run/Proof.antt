@@ -12,7 +12,7 @@ use Rattle.rules.specs.Calls.{itemListLimit}
 use Rattle.laws.specs.Splits.{size}
 use Rattle.stmt.specs.declared.walk.Outcome.{Outcome}
 use Rattle.stmt.proofs.walk.Outcome.{the-type}
-use Rattle.stmt.specs.Walks.{Room, Walking, Running, Came, went-on, placed-one, was-full, has-ended, was-crowded}
+use Rattle.stmt.specs.Walks.{Room, Walking, SameVisits, Running, Came, went-on, placed-one, was-full, has-ended, was-crowded}
 use Rattle.stmt.specs.RunLaws.{entry-left, runs-first, ends, spends, shown-on, shown-placed, fills, goes-on, roomy, crowds}
 use Rattle.stmt.proofs.walk.run.Statement.{statement}
 use Rattle.stmt.proofs.walk.run.Tie as tie
@@ -39,9 +39,10 @@ abbrev Inv-loop : tie.InvT-loop
 Inv-loop to heads-out next-out from heads-in next-in paths weak kinds low high width placed₀ moved₀ open₀ order₀ list₀ n allowance already w₀ made₀ placed
     moved «open» order list w made =
     (made ≤ allowance) × Lengths placed₀ moved₀ open₀ order₀ list₀ placed moved «open» order list
-    × ((g : Group) (first : ItemState) → n ≡ size g
+    × ((g walked : Group) (first : ItemState) → n ≡ size g → SameVisits g walked
     → Walking g to heads-out next-out from heads-in next-in paths weak kinds low high width placed₀ moved₀ open₀ order₀ list₀ w₀ first
-    → Running g to heads-out next-out from heads-in next-in paths weak kinds low high width allowance already first placed moved «open» order list w made)
+    → Running g walked to heads-out next-out from heads-in next-in paths weak kinds low high width allowance already first placed moved «open» order list w
+    made)
 
 abbrev μ-loop : tie.MeasureT-loop
 μ-loop to heads-out next-out from heads-in next-in paths weak kinds low high width placed₀ moved₀ open₀ order₀ list₀ n allowance already w₀ made₀ placed
@@ -51,7 +52,7 @@ abbrev μ-loop : tie.MeasureT-loop
 loop-holds : tie.Need-loop-holds Inv-loop μ-loop
 loop-holds c =
     let start = c .before .before .before .before .before .before .before .before .before .before .before .before .before .before .before .before in
-    (start .pre .0, record { of-placed = refl; of-moved = refl; of-open = refl; of-order = refl; of-list = refl }, λ g first e h. runs-first h)
+    (start .pre .0, record { of-placed = refl; of-moved = refl; of-open = refl; of-order = refl; of-list = refl }, λ g walked first e k h. runs-first h)
 
 same-length : tie.Need-same-length Inv-loop μ-loop
 same-length c = c .before .before .loop .inv .1 .of-placed
@@ -69,7 +70,7 @@ same-length-5 : tie.Need-same-length-5 Inv-loop μ-loop
 same-length-5 c = c .before .before .loop .inv .1 .of-list
 
 returns : tie.Need-returns Inv-loop μ-loop
-returns c g s e h = has-ended (ends (c .before .before .loop .inv .2 g s e h) e (c .if1 .taken))
+returns c g walked s e k h = has-ended (ends k (c .before .before .loop .inv .2 g walked s e k h) e (c .if1 .taken))
 
 same-length-6 : tie.Need-same-length-6 Inv-loop μ-loop
 same-length-6 c = c .before .before .before .loop .inv .1 .of-placed
@@ -87,18 +88,21 @@ same-length-10 : tie.Need-same-length-10 Inv-loop μ-loop
 same-length-10 c = c .before .before .before .loop .inv .1 .of-list
 
 returns-2 : tie.Need-returns-2 Inv-loop μ-loop
-returns-2 c g s e h = has-ended (spends (c .before .before .before .loop .inv .2 g s e h) (λ q. c .before .if1 .left (q ∙ sym e)) (c .if2 .taken))
+returns-2 c g walked s e k h =
+    has-ended (spends k (c .before .before .before .loop .inv .2 g walked s e k h) (λ q. c .before .if1 .left (q ∙ sym e)) (c .if2 .taken))
 
 abbrev entry : tie.At-loop Inv-loop μ-loop → tie.Start Inv-loop μ-loop
 entry c = c .before .before .before .before .before .before .before .before .before .before .before .before .before .before .before .before .before
 
 -- at the loop's head, for the group that the contract names
 running : (h : tie.At-loop Inv-loop μ-loop)
-    → Running (entry h .pre .1 .0) (entry h .args .to .now) (entry h .args .heads-out .now) (entry h .args .next-out .now) (entry h .args .from .now)
+    → Running (entry h .pre .1 .0) (entry h .pre .1 .0) (entry h .args .to .now) (entry h .args .heads-out .now) (entry h .args .next-out .now) (entry h .args .from .now)
     (entry h .args .heads-in .now) (entry h .args .next-in .now) (entry h .args .paths .now) (entry h .args .weak .now) (entry h .args .kinds .now)
     (entry h .args .low .now) (entry h .args .high .now) (entry h .args .width) (entry h .args .allowance) (entry h .args .already) (entry h .pre .1 .1)
     (h .loop .placed) (h .loop .moved) (h .loop .«open») (h .loop .order) (h .loop .list) (h .loop .w) (h .loop .made)
-running h = h .loop .inv .2 (entry h .pre .1 .0) (entry h .pre .1 .1) (entry h .pre .1 .2) (entry h .pre .1 .3)
+running h =
+    h .loop .inv .2 (entry h .pre .1 .0) (entry h .pre .1 .0) (entry h .pre .1 .1) (entry h .pre .1 .2) (record { sizes = refl; visits = λ s. refl })
+    (entry h .pre .1 .3)
 
 is-crowded-requires : tie.Need-is-crowded-requires Inv-loop μ-loop
 is-crowded-requires c κs =
@@ -122,11 +126,15 @@ same-length-15 : tie.Need-same-length-15 Inv-loop μ-loop
 same-length-15 c = c .before .before .before .before .before .loop .inv .1 .of-list
 
 returns-3 : tie.Need-returns-3 Inv-loop μ-loop
-returns-3 c g s e h =
+returns-3 c g walked s e k h =
     let at-head = c .before .before .before .before .before in
     let test = c .before .is-crowded in
-    was-crowded (crowds (length (at-head .loop .list)) (at-head .loop .w .end) (entry at-head .args .n) (sym (test .ensures) ∙ c .if3 .taken)) (at-head .loop .inv .0)
-    (at-head .loop .inv .2 g s e h)
+    was-crowded
+    (omega (
+      arith,
+      crowds (length (at-head .loop .list)) (at-head .loop .w .end) (entry at-head .args .n) (sym (test .ensures) ∙ c .if3 .taken),
+      at-head .loop .inv .1 .of-list,
+    ))
 
 add-made : tie.Need-add-made Inv-loop μ-loop
 add-made c = omega arith
@@ -191,10 +199,10 @@ same-length-20 : tie.Need-same-length-20 Inv-loop μ-loop
 same-length-20 c = lengths (c .before .before .before .before .before .before .before .before .before .before .before .before) .of-list
 
 returns-4 : tie.Need-returns-4 Inv-loop μ-loop
-returns-4 c g s e h =
+returns-4 c g walked s e k h =
     let v = c .before .before .before .before .before .before .before .before .before .before .before .before in
-    let r = head v .loop .inv .2 g s e h in
-    has-ended (fills r (more v g e) (left v) _ (only-full (v .visit .ensures g (r .state) (r .walking)) (c .before .match .keys2) (c .match2 .keys2)))
+    let r = head v .loop .inv .2 g walked s e k h in
+    has-ended (fills k r (more v g e) (left v) _ (only-full (v .visit .ensures g walked (r .state) k (r .walking)) (c .before .match .keys2) (c .match2 .keys2)))
 
 loop-less : tie.Need-loop-less Inv-loop μ-loop
 loop-less c = let v = c .before .before .before .before .before .before .before .before .before .before .before .before .before .before in omega (arith, left v)
@@ -204,10 +212,10 @@ loop-again c =
     let v = c .before .before .before .before .before .before .before .before .before .before .before .before .before .before in (
       omega (arith, left v),
       lengths v,
-      λ g first e h.
-          let r = head v .loop .inv .2 g first e h in
-          goes-on r (more v g e) (left v) (v .visit .kept .1 .1 .1 .1 .1 .1 .1 .1 .1 .1 .1 .1 .1 .1 .0)
-          (shown-placed (c .before .o2 .given .1) (v .visit .ensures g (r .state) (r .walking))),
+      λ g walked first e k h.
+          let r = head v .loop .inv .2 g walked first e k h in
+          goes-on k r (more v g e) (left v) (v .visit .kept .1 .1 .1 .1 .1 .1 .1 .1 .1 .1 .1 .1 .1 .1 .0)
+          (shown-placed (c .before .o2 .given .1) (v .visit .ensures g walked (r .state) k (r .walking))),
     )
 
 loop-less-2 : tie.Need-loop-less-2 Inv-loop μ-loop
@@ -218,10 +226,10 @@ loop-again-2 c =
     let v = c .before .before .before .before .before .before .before .before .before .before .before .before .before in (
       omega (arith, left v),
       lengths v,
-      λ g first e h.
-          let r = head v .loop .inv .2 g first e h in
-          goes-on r (more v g e) (left v) (v .visit .kept .1 .1 .1 .1 .1 .1 .1 .1 .1 .1 .1 .1 .1 .1 .0)
-          (shown-on (c .before .o .given .1) (v .visit .ensures g (r .state) (r .walking))),
+      λ g walked first e k h.
+          let r = head v .loop .inv .2 g walked first e k h in
+          goes-on k r (more v g e) (left v) (v .visit .kept .1 .1 .1 .1 .1 .1 .1 .1 .1 .1 .1 .1 .1 .1 .0)
+          (shown-on (c .before .o .given .1) (v .visit .ensures g walked (r .state) k (r .walking))),
     )
 
 pub run-spec : {M : Type 1} → statement M

@@ -16,47 +16,60 @@ returns c g pairs s = skipped-inside s (omega arith) (omega (arith, ltb-true))
 
 -- where the first test fails, d is outside x's range
 outside : (c : tie.Joined1) (g : Group)
-    → RangeIs g (c .before .before .before .args .x) (c .before .before .before .args .low) (c .before .before .before .args .high)
-    → sameRange g (c .before .before .before .args .x) (c .before .before .before .args .d) ≡ false
+    → RangeIs g (c .before .before .before .before .args .x .0) (c .before .before .before .before .args .low) (c .before .before .before .before .args .high)
+    → sameRange g (c .before .before .before .before .args .x .0) (c .before .before .before .before .args .d .0) ≡ false
 outside c g r =
-    let d = c .before .before .before .args .d in
+    let d = c .before .before .before .before .args .d .0 in
     ⊎-elim (λ w. range-behind d r (omega arith) (omega (arith, ltb-false))) (λ w. range-before d r (omega arith)) (c .if1 .came)
 
+is-injected-requires : tie.Need-is-injected-requires
+is-injected-requires c κs = search needs
+
 returns-2 : tie.Need-returns-2
-returns-2 c g pairs s = passed-injected s (outside (c .before) g (s .range-is)) (c .if3 .taken)
+returns-2 c g pairs s = passed-injected s (outside (c .before .before) g (s .range-is)) (sym (c .before .is-injected .ensures) ∙ c .if3 .taken)
 
 has-pair-requires : tie.Need-has-pair-requires
 has-pair-requires c κs =
-    let start = c .before .before .before .before in
+    let start = c .before .before .before .before .before .before in
     let s = start .pre .2 in
-    cell (s .paths-shown) (start .args .d) (start .args .x) (s .d-below) (s .x-below)
+    cell (s .paths-shown) (start .args .d .0) (start .args .x .0) (s .d-below) (s .x-below)
+
+-- past the first two tests
+abbrev start-of : tie.After-has-pair → tie.Start
+start-of c = c .before .before .before .before .before .before .before
+
+outside-of : (c : tie.After-has-pair) (g : Group) → RangeIs g (start-of c .args .x .0) (start-of c .args .low) (start-of c .args .high)
+    → sameRange g (start-of c .args .x .0) (start-of c .args .d .0) ≡ false
+outside-of c = outside (c .before .before .before)
 
 returns-3 : tie.Need-returns-3
 returns-3 c g pairs s =
-    let start = c .before .before .before .before .before .before in
-    passed-pathless s (outside (c .before .before .before) g (s .range-is)) (c .before .before .if3 .left)
-    (sym (s .paths-shown .bits (start .args .d) (start .args .x) (s .d-below) (s .x-below))
-    ∙ sym (c .before .has-pair .ensures) ∙ not-true _ (c .if4 .taken))
+    let called = c .before in
+    let start = start-of called in
+    passed-pathless s (outside-of called g (s .range-is)) (sym (called .before .before .is-injected .ensures) ∙ called .before .if3 .left)
+    (sym (s .paths-shown .bits (start .args .d .0) (start .args .x .0) (s .d-below) (s .x-below))
+    ∙ sym (called .has-pair .ensures) ∙ not-true _ (c .if4 .taken))
 
 note-requires : tie.Need-note-requires
 note-requires c κs =
-    let start = c .before .before .before .before .before .before .before in
+    let start = start-of (c .before .before) in
     let s = start .pre .2 in
-    cell (s .moved-shown) (start .args .x) (start .args .d) (s .x-below) (s .d-below)
+    cell (s .moved-shown) (start .args .x .0) (start .args .d .0) (s .x-below) (s .d-below)
 
 same-length : tie.Need-same-length
 same-length c = search needs
 
 returns-4 : tie.Need-returns-4
 returns-4 c g pairs s =
-    let called = c .before .before .before .before in
-    let start = called .before .before .before .before .before .before in
-    skipped-noted s (outside (called .before .before .before) g (s .range-is)) (called .before .before .if3 .left)
-    (sym (s .paths-shown .bits (start .args .d) (start .args .x) (s .d-below) (s .x-below))
-    ∙ sym (called .before .has-pair .ensures) ∙ not-false _ (called .if4 .left))
+    let tested = c .before .before .before .before in
+    let called = tested .before in
+    let start = start-of called in
+    skipped-noted s (outside-of called g (s .range-is)) (sym (called .before .before .is-injected .ensures) ∙ called .before .if3 .left)
+    (sym (s .paths-shown .bits (start .args .d .0) (start .args .x .0) (s .d-below) (s .x-below))
+    ∙ sym (called .has-pair .ensures) ∙ not-false _ (tested .if4 .left))
     (c .before .before .note .ensures)
 
 pub skips-spec : {M : Type 1} → statement M
 skips-spec =
     tie.close
-    (tie.spec returns returns-2 has-pair-requires returns-3 note-requires same-length returns-4)
+    (tie.spec returns is-injected-requires returns-2 has-pair-requires returns-3 note-requires same-length returns-4)

@@ -6,6 +6,9 @@ use Rattle.stmt.specs.WalkLaws.{cell, stays-placed, stays-pathless, stay
 use Rattle.stmt.proofs.walk.stays.Statement.{statement}
 use Rattle.stmt.proofs.walk.stays.Tie as tie
 
+cast-row-has : tie.Need-cast-row-has
+cast-row-has c = search needs
+
 row-has-requires : tie.Need-row-has-requires
 row-has-requires c κs = search needs
 
@@ -14,9 +17,9 @@ returns c g items t = sym (stays-placed t (sym (c .before .row-has .ensures) ∙
 
 has-pair-requires : tie.Need-has-pair-requires
 has-pair-requires c κs =
-    let start = c .before .before .before .before .before in
+    let start = c .before .before .before .before .before .before in
     let t = start .pre .2 in
-    cell (t .paths-shown) (start .args .d) (start .args .x) (t .d-below) (t .x-below)
+    cell (t .paths-shown) (start .args .d .0) (start .args .x .0) (t .d-below) (t .x-below)
 
 returns-2 : tie.Need-returns-2
 returns-2 c g items t =
@@ -26,9 +29,9 @@ returns-2 c g items t =
 
 has-pair-requires-2 : tie.Need-has-pair-requires-2
 has-pair-requires-2 c κs =
-    let start = c .before .before .before .before .before .before .before in
+    let start = c .before .before .before .before .before .before .before .before in
     let t = start .pre .2 in
-    cell (t .weak-shown) (start .args .x) (start .args .d) (t .x-below) (t .d-below)
+    cell (t .weak-shown) (start .args .x .0) (start .args .d .0) (t .x-below) (t .d-below)
 
 may-drop-requires : tie.Need-may-drop-requires
 may-drop-requires c κs = search needs
@@ -44,6 +47,7 @@ pub stays-spec : {M : Type 1} → statement M
 stays-spec =
     tie.close
     (tie.spec
+    cast-row-has
     row-has-requires
     returns
     has-pair-requires
