@@ -823,3 +823,25 @@ pub fn groups_entry(bytes: &[u8], reply: &mut [u8], report: &mut [u8], allowance
     write_report(report, &numbers);
     numbers[0]
 }
+
+// ---------------------------------------------------------------------------
+// Keys
+// ---------------------------------------------------------------------------
+
+/// "A program reads a project from standard input (at most 8,229 bytes of it)".
+pub const KEY_INPUT: usize = 8_229;
+
+/// "passes allowance 0, and prints `ok`, kept, groups, module visits, item
+/// visits, then a second line with the order (empty if nothing is kept), all
+/// separated by one blank; or `no` and the number. Lines end in LF."
+pub fn key(input: &[u8]) -> String {
+    let project = &input[..input.len().min(KEY_INPUT)];
+    let mut reply = [0; 256];
+    let [answer, kept, groups, module_visits, item_visits] = order_call(project, &mut reply, 0);
+    if answer != 0 {
+        return format!("no {answer}\n");
+    }
+    let order: Vec<String> = reply[..kept as usize].iter().map(u8::to_string).collect();
+    let order = order.join(" ");
+    format!("ok {kept} {groups} {module_visits} {item_visits}\n{order}\n")
+}

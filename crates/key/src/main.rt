@@ -1,61 +1,37 @@
 // The key of a project on standard input, of which at most 8,229 bytes are read: `ok`, the numbers of kept items, groups, module visits and item
 // visits, and a second line with the load order; or `no` and the number by which it is turned down.
+use keys::Rendered;
 use libc::STDIN_FILENO;
 use libc::STDOUT_FILENO;
-use sort::Numbers;
+ghost use Prim.Native.Nat.{_≤_};
+ghost use mathlib.Core.Path.{_≡_};
+ghost use lib.ListN.{length};
+ghost use Rattle.rules.specs.Keys.{keyInputLimit};
+ghost use Rattle.keys.specs.Texts.{keyTextLimit};
+ghost use Rattle.key.specs.Prints.{Prints};
 
-// Prints a blank and a number.
-fn print_next(n: u32) {
-    io::write_all(STDOUT_FILENO, b" ");
-    io::print_decimal(STDOUT_FILENO, n as u64);
-}
+// The bytes that are read at most.
+const INPUT_LIMIT: usize = 8229;
 
-fn print_refusal(number: u32) {
-    io::write_all(STDOUT_FILENO, b"no");
-    print_next(number);
-    io::write_all(STDOUT_FILENO, b"\n");
-}
-
-fn print_numbers(r: Numbers) {
-    io::write_all(STDOUT_FILENO, b"ok");
-    print_next(r.kept);
-    print_next(r.groups);
-    print_next(r.module_visits);
-    print_next(r.item_visits);
-    io::write_all(STDOUT_FILENO, b"\n");
-}
-
-// Prints the row that stands at a place of the order, behind a blank unless it is the first.
-fn print_row(row: u8, at: usize) {
-    if 0 < at {
-        io::write_all(STDOUT_FILENO, b" ");
-    }
-    io::print_decimal(STDOUT_FILENO, row as u64);
-}
-
-fn print_rows(rows: &[u8]) {
-    let mut i = 0;
-    while i < rows.len() {
-        print_row(rows[i], i);
-        i += 1;
-    }
-    io::write_all(STDOUT_FILENO, b"\n");
-}
-
-// Prints the key of a project.
-fn print_key(project: &[u8]) {
-    let mut reply = [0u8; 256];
-    let r = sort::order(project, &mut reply, 0);
-    if r.answer != 0 {
-        return print_refusal(r.answer);
-    }
-    let kept = r.kept as usize;
-    print_numbers(r);
-    print_rows(&reply[..kept]);
+// Writes what is to be printed for the first n bytes of `read`; how many bytes that are.
+fn text_of(read: &[u8], n: usize, text: &mut [u8]) -> usize
+    requires { ⌜ length (now read) ≡ keyInputLimit ⌝ }
+    requires { ⌜ n ≤ length (now read) ⌝ }
+    requires { ⌜ keyTextLimit ≤ length (now text) ⌝ }
+    ensures { λ r. ⌜ Prints (now (read .entry)) n (now (text .exit)) r ⌝ }
+{
+    let rendered = keys::render(&read[..n], text);
+    // It is never too short, which the proof of this return shows.
+    let Rendered::Written(end) = rendered else {
+        return 0;
+    };
+    end
 }
 
 fn main() {
-    let mut project = [0u8; 8229];
-    let n = io::read_full(STDIN_FILENO, &mut project);
-    print_key(&project[..n]);
+    let mut read = [0u8; INPUT_LIMIT];
+    let mut text = [0u8; keys::TEXT_LIMIT];
+    let n = io::read_full(STDIN_FILENO, &mut read);
+    let end = text_of(&read, n, &mut text);
+    io::write_all(STDOUT_FILENO, &text[..end]);
 }

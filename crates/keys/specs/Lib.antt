@@ -1,0 +1,5 @@
+pub mod Texts
+pub mod DecimalLaws
+pub mod TextLaws
+pub mod SizeLaws
+pub mod AnswerLaws
