@@ -1,5 +1,6 @@
 // Calls of the entries that are written as lines of text. A line is the word `groups` or `order`, the length of the reply, that of the report, the
-// allowance and the project's bytes, all in base 16. Reply and report are parts of larger arrays, whose bytes all start as 170.
+// allowance and the project's bytes, all in base 16. Reply and report are parts of larger arrays, whose bytes all start as 170. Of these functions only
+// bounds are proved; that they read a line so is seen in what the programs print.
 pub mod text;
 
 use sort::entry;
@@ -29,7 +30,7 @@ pub fn bytes_of(line: &[u8], at: usize, out: &mut [u8]) -> usize
     n
 }
 
-// The length of a reply or a report: what a line asks for, and at most what the array has beside the bytes around it.
+// The length of a reply or a report, as a line asks for it. Proved is that the array has room for it and the bytes around it.
 fn length_of(value: u64, array: &[u8]) -> usize
     requires { ⌜ 4 ≤ length (now array) ⌝ }
     ensures { λ r. ⌜ r + 4 ≤ length (now (array .entry)) ⌝ }
@@ -42,7 +43,7 @@ fn length_of(value: u64, array: &[u8]) -> usize
     }
 }
 
-// Sets every byte of an array to 170.
+// Writes 170 over an array. What its bytes are then is left free.
 pub fn mark(array: &mut [u8]) {
     let mut i = 0;
     while i < array.len() {

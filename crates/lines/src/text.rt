@@ -1,4 +1,5 @@
-// Reading a line of words, each parted from the next by one blank.
+// Reading a line of words, each parted from the next by one blank. Places are proved to lie in the line, and numbers to have 32 bits; but for `behind`,
+// which place and which number it is, is left free.
 ghost use Prim.Native.Nat.{_+_, _≤_, _<_, min};
 ghost use mathlib.Core.Path.{_≡_};
 ghost use lib.ListN.{length};
@@ -9,7 +10,7 @@ pub struct Read {
     pub at: usize,
 }
 
-// The first place from `at` on that holds a byte, or the end.
+// Looks for a byte from `at` on. The place returned lies between `at` and the end; that it is the first which holds the byte is not proved.
 pub fn find(text: &[u8], at: usize, byte: u8) -> usize
     requires { ⌜ at ≤ length (now text) ⌝ }
     ensures { λ r. ⌜ (at ≤ r) × (r ≤ length (now (text .entry))) ⌝ }

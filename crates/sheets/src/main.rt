@@ -1,6 +1,7 @@
 // Runs the entries on the calls that stand on standard input, a line each, and prints what they return and write. A line that starts with '#' is
 // copied. A call is a line of crates/lines: printed are the number, the reply and the report, these two with the bytes that stand before and
-// behind them. Any other line is copied behind a question mark, and no call is made.
+// behind them. Any other line is copied behind a question mark, and no call is made. No contract says what is printed: the file stdout has it, and a
+// test of compare/ holds that file to the plain rendering.
 use libc::STDIN_FILENO;
 use libc::STDOUT_FILENO;
 use lines::text;
