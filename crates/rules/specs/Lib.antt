@@ -12,4 +12,4 @@ pub mod Sheets
 pub mod SheetsOnReadings
 pub mod SheetsOnRefusals
 pub mod SheetsOnTheItemList
-pub mod KeySheets
+pub mod SheetsPrinted
