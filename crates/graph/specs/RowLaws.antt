@@ -18,7 +18,7 @@ use Rattle.lists.specs.BitLaws.{bit-or, bit-none, cell-eqb, cell-below}
 use Rattle.graph.specs.Rows.{Rows, Place, cleared, cell, Holds, RowJoined, RowsJoined, Stored}
 
 -- Bit b of row a is a bit of word b / 64 of that row.
-cell-word : (words : ℕ) (matrix : List ℕ) (a b : ℕ) → cell words matrix a b ≡ bit (getD matrix (a * words + b / 64) 0) (b % 64)
+pub cell-word : (words : ℕ) (matrix : List ℕ) (a b : ℕ) → cell words matrix a b ≡ bit (getD matrix (a * words + b / 64) 0) (b % 64)
 unfolding bitAt
 cell-word words matrix a b =
     let word : (a * (64 * words) + b) / 64 ≡ a * words + b / 64 = omega arith in

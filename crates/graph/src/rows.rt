@@ -15,8 +15,7 @@ pub fn holds(matrix: &[u64], words: usize, a: usize, b: usize) -> bool
     requires { ⌜ Place words a b (now matrix) ⌝ }
     ensures { λ r. ⌜ r ≡ cell words (now (matrix .entry)) a b ⌝ }
 {
-    let width = 64 * words;
-    bits::row_has(matrix, a * width + b)
+    bits::has(matrix[a * words + b / 64], (b % 64) as u8)
 }
 
 // Copies row a of a matrix to the front of `row`.

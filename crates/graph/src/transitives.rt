@@ -16,10 +16,7 @@ fn arrives(reach: &[u64], words: usize, a: usize, x: usize) -> bool
     requires { ⌜ Place words a x (now reach) ⌝ }
     ensures { λ r. ⌜ r ≡ (eqb a x || cell words (now (reach .entry)) a x) ⌝ }
 {
-    if a == x {
-        return true;
-    }
-    rows::holds(reach, words, a, x)
+    rows::holds(reach, words, a, x) || a == x
 }
 
 // Enters y into the record's row of a, where a is another item.

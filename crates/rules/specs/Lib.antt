@@ -11,5 +11,5 @@ pub mod SheetWords
 pub mod Sheets
 pub mod SheetsOnReadings
 pub mod SheetsOnRefusals
-pub mod SheetsOnTheItemList
+pub mod SheetsOnTheLists
 pub mod SheetsPrinted

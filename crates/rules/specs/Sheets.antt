@@ -62,17 +62,9 @@ fallback : grouping (projectBytes 3 [] ((0, 2) ∷ (2, 0) ∷ []) ((0 ∷ 1 ∷ 
 unfolding grouping
 fallback = refl
 
--- Unlisted: "two modules, imports 0→1 1→0, no circle. Allowance 1,021: 11. 1,022: 12."
+-- Unlisted: "two modules, imports 0→1 1→0, no circle. Allowance 1,021: 11. 1,022: 12." Its theorems are in SheetsOnTheLists.
 abbrev pub unlistedBytes : List ℕ
 unlistedBytes = projectBytes 2 [] ((0, 1) ∷ (1, 0) ∷ []) [] []
-
-unlisted-1021 : grouping unlistedBytes 6 1021 ≡ turnedDown 11 1021 0
-unfolding grouping
-unlisted-1021 = refl
-
-unlisted-1022 : grouping unlistedBytes 6 1022 ≡ turnedDown 12 1022 0
-unfolding grouping
-unlisted-1022 = refl
 
 -- Weights: "rows (0,3) (1,0), imports 0→1 1→0, circle [0,1], needs 0→1 Always, 0→1 Maybe, 1→0 Always: order 0 1, 2 item visits. First two rows
 -- exchanged: 4."

@@ -4,9 +4,12 @@ use Prim.Native.Nat.{ℕ}
 use mathlib.Core.Path.{_≡_, refl}
 use mathlib.Core.List.{List, [], _∷_}
 use lib.ListN.{set}
+use Rattle.rules.specs.Project.{projectOf}
+use Rattle.rules.specs.Walk.{spent, full}
+use Rattle.rules.specs.Modules.{runModules}
 use Rattle.rules.specs.Calls.{allowed}
 use Rattle.rules.specs.SheetWords.{projectBytes, always, maybe, order, grouping, given, turnedDown, paths, importsCounted}
-use Rattle.rules.specs.Sheets.{twiceBytes}
+use Rattle.rules.specs.Sheets.{twiceBytes, unlistedBytes}
 
 -- 'Project bytes'.
 -- "Byte 2: entry module": "The list starts as the entry, then 0 to M−1." Two modules, entry 1.
@@ -41,6 +44,16 @@ one-2 = refl
 one-1 : order oneBytes 1 1 ≡ turnedDown 11 1 0
 unfolding order
 one-1 = refl
+
+-- "a visit leaves over" the limit: the list of Unlisted starts with 3 entries, and each visit leaves one more. With a limit of 5 it is full after 3
+-- visits, "with the last one".
+over-5 : runModules (projectOf unlistedBytes) 5 3 ≡ full 3
+unfolding order
+over-5 = refl
+
+at-5 : runModules (projectOf unlistedBytes) 5 2 ≡ spent 2
+unfolding order
+at-5 = refl
 
 -- "Visits of both walks are counted against one allowance": Twice makes 4 module visits and 2 item visits. "its counts are 0, except that 11 and 12
 -- carry the visits made"

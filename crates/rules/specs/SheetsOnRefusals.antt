@@ -7,7 +7,7 @@ use lib.ListN.{take, set, replicate}
 use Rattle.rules.specs.Project.{number32}
 use Rattle.rules.specs.Calls.{bytes32}
 use Rattle.rules.specs.SheetWords.{sections, projectBytes, always, order, grouping, enterOrder, enterGroups, given, turnedDown, left}
-use Rattle.rules.specs.Sheets.{earlyBytes, twiceBytes, unlistedBytes}
+use Rattle.rules.specs.Sheets.{earlyBytes, twiceBytes}
 
 -- A project that is damaged below: a plain item in module 0 and a dropped one in module 1, import 0→1, circle [0,1], need 0→1, 48 bytes.
 -- Byte 1: M, 2: entry. Bytes 4, 12, 20, 28: offsets 36, 40, 42, 45, each with its length 4 bytes behind it: 4, 2, 3, 3. Bytes 36 to 39: the items;
@@ -154,8 +154,8 @@ sound-groups-3 : grouping sound 6 3 ≡ given 0 1 3 0 (2 ∷ 1 ∷ 0 ∷ [])
 unfolding grouping
 sound-groups-3 = refl
 
--- 12, "a visit leaves over 1,024 module or 16,384 item entries", is on sheets Unlisted and Injected circle, and below in an entry. "12 right after a
--- visit, 11 before the next": at 1,022 visits of Unlisted both would do.
+-- 12, "a visit leaves over 1,024 module or 16,384 item entries", is in SheetsOnTheLists: of the calls, and of entries. "12 right after a visit, 11
+-- before the next": at 1,022 visits of Unlisted both would do.
 
 -- "Checked in the table's order": of two neighbouring numbers the smaller wins.
 -- 1 and 2: 35 bytes of edition 2. 2 and 3: edition 2 and first offset 37. 3 and 4: items of 3 bytes, so that imports are misplaced. 4 and 5: 65 modules
@@ -202,17 +202,6 @@ entry-groups : enterGroups twiceBytes (replicate 12 9) (replicate 20 7) 0
     (0 ∷ 0 ∷ 0 ∷ 0 ∷ 0 ∷ 0 ∷ 0 ∷ 0 ∷ 2 ∷ 0 ∷ 0 ∷ 0 ∷ 4 ∷ 0 ∷ 0 ∷ 0 ∷ 0 ∷ 0 ∷ 0 ∷ 0 ∷ [])
 unfolding enterGroups
 entry-groups = refl
-
--- "A refusal writes nothing to the reply". 1,022 visits are 254 and 3, 300 are 44 and 1.
-entry-order-12 : enterOrder unlistedBytes (9 ∷ []) (replicate 20 7) 0
-    ≡ left 12 (9 ∷ []) (12 ∷ 0 ∷ 0 ∷ 0 ∷ 0 ∷ 0 ∷ 0 ∷ 0 ∷ 0 ∷ 0 ∷ 0 ∷ 0 ∷ 254 ∷ 3 ∷ 0 ∷ 0 ∷ 0 ∷ 0 ∷ 0 ∷ 0 ∷ [])
-unfolding enterOrder
-entry-order-12 = refl
-
-entry-groups-11 : enterGroups unlistedBytes (replicate 6 9) (replicate 20 7) 300
-    ≡ left 11 (replicate 6 9) (11 ∷ 0 ∷ 0 ∷ 0 ∷ 0 ∷ 0 ∷ 0 ∷ 0 ∷ 0 ∷ 0 ∷ 0 ∷ 0 ∷ 44 ∷ 1 ∷ 0 ∷ 0 ∷ 0 ∷ 0 ∷ 0 ∷ 0 ∷ [])
-unfolding enterGroups
-entry-groups-11 = refl
 
 -- "Numbers of several bytes are little-endian", written and read.
 little-endian : bytes32 67305985 ≡ 1 ∷ 2 ∷ 3 ∷ 4 ∷ []

@@ -1,11 +1,11 @@
--- 'Sheets and their keys': what the program prints for some inputs, as theorems about the definitions, all proved by computation. Assumes nothing.
+-- 'Sheets and their keys': what the program prints for some inputs, as theorems about the definitions, all proved by computation. The key of
+-- Unlisted is in SheetsOnTheLists. Assumes nothing.
 use Prim.Native.Nat.{ℕ}
 use mathlib.Core.Path.{_≡_, refl}
 use mathlib.Core.List.{List, [], _∷_}
-use lib.ListN.{length, take, replicate}
+use lib.ListN.{take, replicate}
 use Rattle.rules.specs.Keys.{digitsWithin, decimal, behind, separated, okText, noText, keyOf, keyText, printed}
 use Rattle.rules.specs.SheetWords.{sections, projectBytes, order}
-use Rattle.rules.specs.Sheets.{unlistedBytes}
 
 -- What the program prints for an input.
 prints : List ℕ → List ℕ
@@ -48,11 +48,6 @@ decimal-largest : decimal 4294967295 ≡ 52 ∷ 50 ∷ 57 ∷ 52 ∷ 57 ∷ 54 �
 unfolding prints
 decimal-largest = refl
 
--- Unlisted: `no 12`, which it is not under an allowance of 1,000.
-unlisted : prints unlistedBytes ≡ 110 ∷ 111 ∷ 32 ∷ 49 ∷ 50 ∷ 10 ∷ []
-unfolding prints
-unlisted = refl
-
 -- 256 items, all of kind 5: the reply is long enough for them. `ok 0 1 2 0`, then an empty line.
 most-items : prints (projectBytes 1 (replicate 256 (0, 5)) [] [] []) ≡ 111 ∷ 107 ∷ 32 ∷ 48 ∷ 32 ∷ 49 ∷ 32 ∷ 50 ∷ 32 ∷ 48 ∷ 10 ∷ 10 ∷ []
 unfolding prints
@@ -61,10 +56,6 @@ most-items = refl
 -- An input of 8,229 bytes is read whole: its 2,731 needs are too many, 5. One of 8,230 bytes is cut, and its needs don't end it: 3.
 abbrev longBytes : ℕ → List ℕ
 longBytes needs = sections 1 [] [] [] (replicate needs 0)
-
-long-lengths : length (longBytes 8193) ≡ 8229
-unfolding prints
-long-lengths = refl
 
 whole : prints (longBytes 8193) ≡ 110 ∷ 111 ∷ 32 ∷ 53 ∷ 10 ∷ []
 unfolding prints

@@ -1,7 +1,7 @@
 -- Laws for the proofs of src/walk.rt: what one visit does, part by part. Assumes nothing.
 use Prim.Native.Nat.{ℕ, zero, suc, _+_, _*_, _-_, _≤_, _<_}
 use native.Mathlib.Omega.{arith}
-use native.Mathlib.Nat.{mul-le-mul, sub-zero}
+use native.Mathlib.Nat.{mul-le-mul}
 use mathlib.Core.Path.{_≡_, refl, sym, ap, ap₂, subst, _∙_}
 use mathlib.Core.Bool.{Bool, true, false, not, _&&_, _||_, and-assoc, and-false}
 use mathlib.Core.List.{List, [], _∷_, _++_, map, append-nil}
@@ -26,7 +26,7 @@ use Rattle.lists.specs.Stacks.{stack}
 use Rattle.lists.specs.StackLaws.{stack-length, stack-push, placed-stack, Placing, placing-start, placing-rest, placing-one, placing-end}
 use Rattle.lists.specs.Pairs.{targets}
 use Rattle.lists.specs.ChainLaws.{left, targets-end, targets-step}
-use Rattle.project.specs.Kinds.{injectedBy, mayDropBy, Says}
+use Rattle.project.specs.Kinds.{decoded, injectedBy, mayDropBy, Says}
 use Rattle.project.specs.declared.kinds.Kind.{Kind}
 use Rattle.graph.specs.Graph.{isMaybe, Chained}
 use Rattle.split.specs.Shown.{RangeIs}
@@ -241,24 +241,24 @@ dependencies-most {g} w x =
 -- What the tests on a dependency ask for.
 module _ {g : Group} {items : List ℕ} {pairs : List (ℕ × ℕ)} {to heads next paths weak kinds low high : List ℕ} {width : ℕ} {placed moved «open» : List ℕ}
     {x : ℕ} (f : Findable g items pairs to heads next paths weak kinds low high width placed moved «open» x) {d : ℕ} (below : d < size g) where
-  pub skippable : {kind : Kind} → Says kind (getD kinds x 0) → (after : List (ℕ × ℕ)) {moved′ : List ℕ} → Table (size g) width moved′ (hasMoved after)
+  pub skippable : {kind : Kind} → kind ≡ decoded (getD kinds x 0) → (after : List (ℕ × ℕ)) {moved′ : List ℕ} → Table (size g) width moved′ (hasMoved after)
       → Skippable g after paths moved′ width x d kind (getD low x 0) (getD high x 0)
-  skippable says after t =
+  skippable e after t =
       record {
         x-below = f .x-below;
         d-below = below;
-        kind-is = rw (f .kinds-shown .each x (f .x-below)) at says;
+        kind-is = rw e (f .kinds-shown .each x (f .x-below));
         range-is = f .ranges-shown .each x (f .x-below);
         paths-shown = f .paths-shown;
         moved-shown = t;
       }
 
-  pub testable : {kind : Kind} → Says kind (getD kinds x 0) → Testable g items paths weak placed width x d kind
-  testable says =
+  pub testable : {kind : Kind} → kind ≡ decoded (getD kinds x 0) → Testable g items paths weak placed width x d kind
+  testable e =
       record {
         x-below = f .x-below;
         d-below = below;
-        kind-is = rw (f .kinds-shown .each x (f .x-below)) at says;
+        kind-is = rw e (f .kinds-shown .each x (f .x-below));
         paths-shown = f .paths-shown;
         weak-shown = f .weak-shown;
         placed-shown = f .placed-shown;
@@ -365,22 +365,18 @@ module _ (g : Group) (items : List ℕ) (pairs : List (ℕ × ℕ)) {to heads ne
 
 -- Open dependencies put before the front: one turn of the loop, and what it comes to.
 module _ {top : ℕ} {old : List ℕ} (n : ℕ) («open» : List ℕ) (fits : n ≤ length «open») where
-  pub put-turn : {a : List ℕ} (i : ℕ) → i < n → n ≤ top → Placing top (take n «open») old (top - i) (drop i (take n «open»)) a
-      → Placing top (take n «open») old (top - (i + 1)) (drop (i + 1) (take n «open»)) (set a (top - 1 - i) (getD «open» i 0))
-  put-turn {a} i h k p =
+  pub put-turn : {at : ℕ} {a : List ℕ} (i : ℕ) → i < n → Placing top (take n «open») old at (drop i (take n «open»)) a
+      → Placing top (take n «open») old (at - 1) (drop (i + 1) (take n «open»)) (set a (at - 1) (getD «open» i 0))
+  put-turn i h p =
       let first : drop i (take n «open») ≡ getD «open» i 0 ∷ drop (i + 1) (take n «open») =
       drop-cons (take n «open») i 0 (omega (arith, length-take n «open»)) ∙ rw (add-one, getD-take n «open» i 0 h) in
-      let below : top - i - 1 ≡ top - (i + 1) = omega arith in
-      let place : top - i - 1 ≡ top - 1 - i = omega arith in
-      subst (λ (q : ℕ). Placing top (take n «open») old q (drop (i + 1) (take n «open»)) (set a (top - 1 - i) (getD «open» i 0))) below
-      (subst (λ (q : ℕ). Placing top (take n «open») old (top - i - 1) (drop (i + 1) (take n «open»)) (set a q (getD «open» i 0))) place
-      (placing-one (placing-rest first p)))
+      placing-one (placing-rest first p)
 
-  pub put-none : n ≤ top → top ≤ length old → Placing top (take n «open») old (top - 0) (drop 0 (take n «open»)) old
-  put-none k h = rw sub-zero (placing-start (record { room = omega (arith, length-take n «open»); within = h }))
+  pub put-none : n ≤ top → top ≤ length old → Placing top (take n «open») old top (drop 0 (take n «open»)) old
+  put-none k h = placing-start (record { room = omega (arith, length-take n «open»); within = h })
 
-  pub put-all : {a : List ℕ} (end i : ℕ) → n ≤ i → top ≡ end + n → top ≤ itemListLimit → top ≤ length old
-      → Placing top (take n «open») old (top - i) (drop i (take n «open»)) a → Listed a top (take n «open» ++ stack old end)
+  pub put-all : {at : ℕ} {a : List ℕ} (end i : ℕ) → n ≤ i → top ≡ end + n → top ≤ itemListLimit → top ≤ length old
+      → Placing top (take n «open») old at (drop i (take n «open»)) a → Listed a top (take n «open» ++ stack old end)
   put-all {a} end i all e most room p =
       let q = placing-end (placing-rest (drop-of-length-le (take n «open») {i = i} (omega (arith, length-take n «open»))) p) in
       let count : length (take n «open») ≡ n = omega (arith, length-take n «open») in
@@ -514,8 +510,8 @@ module _ (g : Group) (items : List ℕ) {from heads next : List ℕ} (l : Chaine
 
 -- whether a dependant is waiting, by its kind and the row of items placed
 pub waiting-bit : {g : Group} {items from heads next kinds placed : List ℕ} {x : ℕ} → Awaited g items from heads next kinds placed x → (d : ℕ) → d < size g
-    → (isInjected (kindOf g d) && not (elem d items)) ≡ (isInjected (getD kinds d 0) && not (bitAt placed d))
-waiting-bit a d h = rw (a .kinds-shown .each d h, a .placed-shown .bits d h)
+    → (isInjected (kindOf g d) && not (elem d items)) ≡ (injectedBy (decoded (getD kinds d 0)) && not (bitAt placed d))
+waiting-bit a d h = rw (a .kinds-shown .each d h .injected, a .placed-shown .bits d h)
 
 -- The items that precede x, from p on.
 module _ {g : Group} {items : List ℕ} {pairs : List (ℕ × ℕ)} {placed moved : List ℕ} {width low x : ℕ}

@@ -3,7 +3,7 @@ use graph::rows;
 use lists::bits;
 use project::NodeId;
 use project::kinds::Kind;
-use project::kinds::kind_of;
+use project::kinds::decoded;
 use split::Split;
 use split::first_list;
 ghost use Prim.Native.Nat.{ℕ, _+_, _*_, _-_, _≤_, _<_};
@@ -14,13 +14,13 @@ ghost use lib.Dec.{eqb, ltb};
 ghost use lib.ListN.{length, getD, take, set};
 ghost use Rattle.rules.specs.Lists.{elem};
 ghost use Rattle.rules.specs.Project.{itemLimit};
-ghost use Rattle.rules.specs.Items.{isInjected, Group, ItemState, itemState, waiting, oneByOne, preceding as precedingOf, afterPreceding, visitItem, placedOf, itemWalk};
+ghost use Rattle.rules.specs.Items.{Group, ItemState, itemState, waiting, oneByOne, preceding as precedingOf, afterPreceding, visitItem, placedOf, itemWalk};
 ghost use Rattle.rules.specs.Walk.{run as runs};
 ghost use Rattle.rules.specs.Calls.{itemListLimit};
 ghost use Rattle.lists.specs.Bits.{bitAt, Inserted};
 ghost use Rattle.lists.specs.Stacks.{stack};
 ghost use Rattle.laws.specs.Splits.{size};
-ghost use Rattle.project.specs.Kinds.{injectedBy, mayDropBy};
+ghost use Rattle.project.specs.Kinds.{decoded as decodedBy, injectedBy, mayDropBy};
 ghost use Rattle.stmt.specs.Walks.{Cell, Noted, Skippable, Skipped, Testable, stays as staysOpen, Findable, Found, Listed, Relisted, Awaited, Pushed, Precedable, First, Fits, Room, Front, Put, Settling, Walking, Startable, Started, SameVisits, Came, Ran};
 
 // The numbers of the walk's state: the end of the list and how many items are placed.
@@ -72,34 +72,15 @@ impl ItemWalk {
     }
 }
 
-// Whether items of a kind may drop dependencies of any weight.
-fn drops_all(kind: Kind) -> bool
-    ensures { λ r. ⌜ r ≡ mayDropBy kind 0 ⌝ }
-{
-    match kind {
-        Kind::MayDropAll => true,
-        _ => false,
-    }
-}
-
-// Whether items of a kind may drop dependencies of weight Maybe alone.
-fn drops_weak(kind: Kind) -> bool
-    ensures { λ r. ⌜ r ≡ (mayDropBy kind 1 && not (mayDropBy kind 0)) ⌝ }
-{
-    match kind {
-        Kind::MayDropWeak => true,
-        _ => false,
-    }
-}
-
 // Whether an open dependency of an item of this kind may be dropped.
 fn may_drop(kind: Kind, weak: bool) -> bool
     ensures { λ r. ⌜ ((weight : ℕ) → weak ≡ eqb weight 1 → r ≡ mayDropBy kind weight) ⌝ }
 {
-    if drops_all(kind) {
-        return true;
+    match kind {
+        Kind::MayDropAll => true,
+        Kind::MayDropWeak => weak,
+        _ => false,
     }
-    drops_weak(kind) && weak
 }
 
 // Whether items of a kind are injected.
@@ -209,7 +190,7 @@ fn find_open(
         → Found g items pairs width (x .0) (now (moved .exit)) (now («open» .exit)) r) ⌝ }
 {
     let at = x.0 as usize;
-    let kind = kind_of(kinds[at]);
+    let kind = decoded(kinds[at]);
     let start = low[at];
     let end = high[at];
     let mut n = 0;
@@ -236,9 +217,11 @@ fn put_open(list: &mut [u16], open: &[u16], n: usize, w: ItemWalk) -> Outcome
     if ItemWalk::LIST < end {
         return Outcome::ListFull;
     }
+    let mut at = end;
     let mut i = 0;
     while i < n {
-        list[end - 1 - i] = open[i];
+        at -= 1;
+        list[at] = open[i];
         i += 1;
     }
     Outcome::WentOn(ItemWalk {
@@ -250,10 +233,10 @@ fn put_open(list: &mut [u16], open: &[u16], n: usize, w: ItemWalk) -> Outcome
 // Whether a dependant d is waiting: it is injected and not placed.
 fn is_waiting(kinds: &[u8], placed: &[u64], d: NodeId) -> bool
     requires { ⌜ (d .0 < length (now kinds)) × (d .0 < length (now placed) * 64) ⌝ }
-    ensures { λ r. ⌜ r ≡ (isInjected (getD (now (kinds .entry)) (d .0) 0) && not (bitAt (now (placed .entry)) (d .0))) ⌝ }
+    ensures { λ r. ⌜ r ≡ (injectedBy (decodedBy (getD (now (kinds .entry)) (d .0) 0)) && not (bitAt (now (placed .entry)) (d .0))) ⌝ }
 {
     let i = d.0 as usize;
-    is_injected(kind_of(kinds[i])) && !bits::row_has(placed, i)
+    is_injected(decoded(kinds[i])) && !bits::row_has(placed, i)
 }
 
 // Pushes the unplaced injected dependants of x one by one; the end then, or one more than the limit where they do not fit.
@@ -465,7 +448,7 @@ fn visit_unplaced(
         return put_open(list, open, n, w);
     }
     let at = x.0 as usize;
-    if is_injected(kind_of(kinds[at])) {
+    if is_injected(decoded(kinds[at])) {
         return place_injected(from, heads_in, next_in, kinds, placed, order, list, w, x);
     }
     visit_uninjected(

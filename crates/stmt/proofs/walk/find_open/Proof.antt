@@ -9,7 +9,7 @@ use mathlib.Core.List.{List}
 use lib.ListN.{length, getD, length-set}
 use Rattle.rules.specs.Project.{needLimit}
 use Rattle.rules.specs.Items.{Group}
-use Rattle.project.specs.Kinds.{Says}
+use Rattle.project.specs.Kinds.{decoded}
 use Rattle.lists.specs.ChainLaws.{left}
 use Rattle.stmt.specs.Walks.{Findable}
 use Rattle.stmt.specs.WalkLaws.{chain-less, end-below, Finding, finding-start, skippable, testable, finding-room, finding-kept, finding-skipped, finding-dropped, finding-end}
@@ -36,11 +36,11 @@ entry-of c = entry (c .before .before .before .before .before .before .before)
 cast-at : tie.Need-cast-at Inv-loop μ-loop
 cast-at c = omega arith
 
-shared-slice-read-kind-of : tie.Need-shared-slice-read-kind-of Inv-loop μ-loop
-shared-slice-read-kind-of c = let f = entry (c .before .before) .pre .3 in omega (arith, f .x-below, f .kinds-shown .room)
+shared-slice-read-decoded : tie.Need-shared-slice-read-decoded Inv-loop μ-loop
+shared-slice-read-decoded c = let f = entry (c .before .before) .pre .3 in omega (arith, f .x-below, f .kinds-shown .room)
 
-kind-of-requires : tie.Need-kind-of-requires Inv-loop μ-loop
-kind-of-requires c κs = search needs
+decoded-requires : tie.Need-decoded-requires Inv-loop μ-loop
+decoded-requires c κs = search needs
 
 mul-start : tie.Need-mul-start Inv-loop μ-loop
 mul-start c = let f = entry (c .before .before .before) .pre .3 in omega (arith, f .x-below, f .paths-shown .within, f .paths-shown .most)
@@ -68,10 +68,10 @@ loop-holds c =
     let a = entry (c .before .before .before .before .before .before) .args in
     (refl, refl, λ g items pairs f. finding-start g items pairs (f .chained) (a .width) (a .x .0) (f .x-below) (f .moved-shown))
 
--- what is known of the kind
-says : (c : tie.At-loop Inv-loop μ-loop)
-    → Says (c .before .before .before .before .kind-of .result) (getD (entry-of c .args .kinds .now) (entry-of c .args .x .0) 0)
-says c = c .before .before .before .before .kind-of .ensures
+-- the kind as it is stored
+stored : (c : tie.At-loop Inv-loop μ-loop)
+    → c .before .before .before .before .decoded .result ≡ decoded (getD (entry-of c .args .kinds .now) (entry-of c .args .x .0) 0)
+stored c = c .before .before .before .before .decoded .ensures
 
 -- what holds at the loop's head for the group that the contract names
 most : (c : tie.At-loop Inv-loop μ-loop) → c .loop .e ≤ entry-of c .pre .3 .chained .count
@@ -91,13 +91,13 @@ skips-requires c κs =
     let head = c .before .before .before in
     let f = entry-of head .pre .3 in
     let at-head = head .loop .inv .2 (entry-of head .pre .0) (entry-of head .pre .1) (entry-of head .pre .2) f in
-    (entry-of head .pre .0, at-head .after, skippable f (end-below (f .chained) (head .loop .e) (omega arith) (most head)) (says head) (at-head .after) (at-head .shown))
+    (entry-of head .pre .0, at-head .after, skippable f (end-below (f .chained) (head .loop .e) (omega arith) (most head)) (stored head) (at-head .after) (at-head .shown))
 
 stays-requires : tie.Need-stays-requires Inv-loop μ-loop
 stays-requires c κs =
     let head = c .before .before .before .before .before .before .before in
     let f = entry-of head .pre .3 in
-    (entry-of head .pre .0, entry-of head .pre .1, testable f (end-below (f .chained) (head .loop .e) (omega arith) (most head)) (says head))
+    (entry-of head .pre .0, entry-of head .pre .1, testable f (end-below (f .chained) (head .loop .e) (omega arith) (most head)) (stored head))
 
 slice-write-open : tie.Need-slice-write-open Inv-loop μ-loop
 slice-write-open c =
@@ -107,9 +107,9 @@ slice-write-open c =
     let f = start .pre .3 in
     let at-head = head .loop .inv .2 (start .pre .0) (start .pre .1) (start .pre .2) f in
     let below = end-below (f .chained) (head .loop .e) more (at-head .most) in
-    let k = c .before .before .before .before .before .skips .ensures (start .pre .0) (at-head .after) (skippable f below (says head) (at-head .after) (at-head .shown)) in
+    let k = c .before .before .before .before .before .skips .ensures (start .pre .0) (at-head .after) (skippable f below (stored head) (at-head .after) (at-head .shown)) in
     finding-room (start .pre .0) (start .pre .1) (start .pre .2) (f .chained) (start .args .width) (start .args .x .0) at-head more k
-    (c .before .before .if1 .taken) (sym (c .before .stays .ensures (start .pre .0) (start .pre .1) (testable f below (says head))) ∙ c .if2 .taken) (f .formed)
+    (c .before .before .if1 .taken) (sym (c .before .stays .ensures (start .pre .0) (start .pre .1) (testable f below (stored head))) ∙ c .if2 .taken) (f .formed)
     (omega (arith, head .loop .inv .1, f .room))
 
 mul-open : tie.Need-mul-open Inv-loop μ-loop
@@ -147,17 +147,17 @@ loop-again c =
       λ g items pairs f.
           let at-head = head .loop .inv .2 g items pairs f in
           let below = end-below (f .chained) (head .loop .e) (omega arith) (at-head .most) in
-          let k = called .skips .ensures g (at-head .after) (skippable f below (says head) (at-head .after) (at-head .shown)) in
+          let k = called .skips .ensures g (at-head .after) (skippable f below (stored head) (at-head .after) (at-head .shown)) in
           ⊎-elim
           (λ w.
-          let stay = sym (w .1 .ensures g items (testable f below (says head))) ∙ w .2 .taken in
+          let stay = sym (w .1 .ensures g items (testable f below (stored head))) ∙ w .2 .taken in
           rw (w .3, w .4)
           (finding-kept g items pairs (f .chained) (a .width) (a .x .0) at-head (omega arith) k (w .0 .taken) stay
           (finding-room g items pairs (f .chained) (a .width) (a .x .0) at-head (omega arith) k (w .0 .taken) stay (f .formed) (omega (arith, head .loop .inv .1)))))
           (λ w.
           rw (w .1, w .2)
           (⊎-elim
-          (λ v. finding-dropped g items pairs (f .chained) (a .width) (a .x .0) at-head (omega arith) k (sym (v .1 .ensures g items (testable f below (says head))) ∙ v .2 .left))
+          (λ v. finding-dropped g items pairs (f .chained) (a .width) (a .x .0) at-head (omega arith) k (sym (v .1 .ensures g items (testable f below (stored head))) ∙ v .2 .left))
           (λ v. finding-skipped g items pairs (f .chained) (a .width) (a .x .0) at-head (omega arith) k (v .left))
           (w .0 .came)))
           (c .before .if1 .came),
@@ -179,8 +179,8 @@ find-open-spec =
     Inv-loop
     μ-loop
     cast-at
-    shared-slice-read-kind-of
-    kind-of-requires
+    shared-slice-read-decoded
+    decoded-requires
     mul-start
     shared-slice-read-start
     mul-end
