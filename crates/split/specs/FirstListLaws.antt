@@ -70,19 +70,19 @@ module _ (low high : ℕ) where
       → n ≡ end + (high - low - (x - low))
   numbers-count x p = omega (arith, p .count, length-upFrom (low + (x - low)) (high - low - (x - low)))
 
--- The starts from i on, and the numbers of the ranges that hold them.
+-- The entries from i on, and the numbers of the ranges that hold those of them that are starts.
 from-previous : (l : List ℕ) (i : ℕ) → 0 < i → i ≤ length l → drop (i - 1) l ≡ getD l (i - 1) 0 ∷ drop i l
 from-previous l i h k =
     let e : suc (i - 1) ≡ i = omega arith in
     drop-cons l (i - 1) 0 (omega arith) ∙ ap (λ (j : ℕ). getD l (i - 1) 0 ∷ drop j l) e
 
-module _ {list₀ : List ℕ} {end : ℕ} {list : List ℕ} {n : ℕ} (starts : List ℕ) (i : ℕ) where
-  pub starts-room : Pushed (drop i starts) list₀ end list n → i ≤ length starts → n + i ≡ end + length starts
-  starts-room p h = omega (arith, p .count, length-drop i starts)
+module _ {list₀ : List ℕ} {end : ℕ} {list : List ℕ} {n : ℕ} (entries : List ℕ) (i : ℕ) where
+  pub entries-room : Pushed (drop i entries) list₀ end list n → i ≤ length entries → n + i ≡ end + length entries
+  entries-room p h = omega (arith, p .count, length-drop i entries)
 
-  pub starts-turn : 0 < i → i ≤ length starts → n < length list → Pushed (drop i starts) list₀ end list n
-      → Pushed (drop (i - 1) starts) list₀ end (set list n (getD starts (i - 1) 0)) (n + 1)
-  starts-turn h k room p = rw (from-previous starts i h k) (pushed-one p (getD starts (i - 1) 0) room)
+  pub entries-turn : 0 < i → i ≤ length entries → n < length list → Pushed (drop i entries) list₀ end list n
+      → Pushed (drop (i - 1) entries) list₀ end (set list n (getD entries (i - 1) 0)) (n + 1)
+  entries-turn h k room p = rw (from-previous entries i h k) (pushed-one p (getD entries (i - 1) 0) room)
 
 pub held-start : (g : Group) (starts list : List ℕ) (end : ℕ) → Pushed (heldBy g (drop (length starts) starts)) list end list end
 unfolding flatMap

@@ -203,16 +203,16 @@ fn push_ranges(low: &[u16], high: &[u16], starts: &[u16], list: &mut [u16], end:
     n
 }
 
-// Puts the starts in front of a list, the first foremost; the list's end then.
-fn push_starts(starts: &[u16], list: &mut [u16], end: usize) -> usize
-    requires { ⌜ end + length (now starts) ≤ length (now list) ⌝ }
-    ensures { λ r. ⌜ Pushed (now (starts .entry)) (now (list .entry)) end (now (list .exit)) r ⌝ }
+// Puts entries in front of a list, the first foremost; the list's end then.
+pub fn push_entries(entries: &[u16], list: &mut [u16], end: usize) -> usize
+    requires { ⌜ end + length (now entries) ≤ length (now list) ⌝ }
+    ensures { λ r. ⌜ Pushed (now (entries .entry)) (now (list .entry)) end (now (list .exit)) r ⌝ }
 {
     let mut n = end;
-    let mut i = starts.len();
+    let mut i = entries.len();
     while 0 < i {
         i -= 1;
-        list[n] = starts[i];
+        list[n] = entries[i];
         n += 1;
     }
     n
@@ -227,5 +227,5 @@ pub fn first_list(low: &[u16], high: &[u16], starts: &[u16], s: Split, list: &mu
 {
     let injected = push_numbers(s.uninjected, s.count, list, 0);
     let ranges = push_ranges(low, high, starts, list, injected);
-    push_starts(starts, list, ranges)
+    push_entries(starts, list, ranges)
 }

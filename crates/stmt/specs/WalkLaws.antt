@@ -6,8 +6,8 @@ use mathlib.Core.Path.{_≡_, refl, sym, ap, ap₂, subst, _∙_}
 use mathlib.Core.Bool.{Bool, true, false, not, _&&_, _||_, and-assoc, and-false}
 use mathlib.Core.List.{List, [], _∷_, _++_, map, append-nil}
 use lib.Dec.{eqb, ltb}
-use lib.ListN.{length, getD, take, set, length-append, length-take, length-set, drop, drop-of-length-le}
-use lib.Seq.{append-snoc, take-suc-set, drop-cons, getD-take}
+use lib.ListN.{length, getD, take, set, length-append, length-take, length-set}
+use lib.Seq.{append-snoc, take-suc-set}
 use native.Mathlib.Numerals.{add-one, sub-one}
 use borrow.Author.Tests.{ltb-true, lt-ltb, le-ltb, le-leb, lt-leb}
 use Rattle.rules.specs.Lists.{any, consIf, keep, elem, upFrom}
@@ -23,13 +23,14 @@ use Rattle.laws.specs.Counting.{below-length, no-member}
 use Rattle.laws.specs.Orders.{and-true}
 use Rattle.laws.specs.ItemWalk.{dependenciesOf-∈, dependantsOf-∈}
 use Rattle.lists.specs.Stacks.{stack}
-use Rattle.lists.specs.StackLaws.{stack-length, stack-push, placed-stack, Placing, placing-start, placing-rest, placing-one, placing-end}
+use Rattle.lists.specs.StackLaws.{stack-length, stack-push}
 use Rattle.lists.specs.Pairs.{targets}
 use Rattle.lists.specs.ChainLaws.{left, targets-end, targets-step}
-use Rattle.project.specs.Kinds.{decoded, injectedBy, mayDropBy, Says}
+use Rattle.project.specs.Kinds.{decoded, injectedBy, mayDropBy}
 use Rattle.project.specs.declared.kinds.Kind.{Kind}
 use Rattle.graph.specs.Graph.{isMaybe, Chained}
 use Rattle.split.specs.Shown.{RangeIs}
+use Rattle.split.specs.FirstLists.{Pushed as Prepended}
 use Rattle.stmt.specs.Walks.{Table, staying, Findable, Found, Listed, Fits, Pushed, pushed, no-room, Awaited, Ordered, Precedable, First, none, first, Cell, Noted, noted, had-moved, Skippable, Skipped, Testable, stays}
 
 -- Tables of bits: a cell is a bit of the words, and its place is small.
@@ -363,32 +364,10 @@ module _ (g : Group) (items : List ℕ) (pairs : List (ℕ × ℕ)) {to heads ne
             ∙ ap (λ (q : List ℕ). opened q (f .after)) (append-nil (take count «open»));
       }
 
--- Open dependencies put before the front: one turn of the loop, and what it comes to.
-module _ {top : ℕ} {old : List ℕ} (n : ℕ) («open» : List ℕ) (fits : n ≤ length «open») where
-  pub put-turn : {at : ℕ} {a : List ℕ} (i : ℕ) → i < n → Placing top (take n «open») old at (drop i (take n «open»)) a
-      → Placing top (take n «open») old (at - 1) (drop (i + 1) (take n «open»)) (set a (at - 1) (getD «open» i 0))
-  put-turn i h p =
-      let first : drop i (take n «open») ≡ getD «open» i 0 ∷ drop (i + 1) (take n «open») =
-      drop-cons (take n «open») i 0 (omega (arith, length-take n «open»)) ∙ rw (add-one, getD-take n «open» i 0 h) in
-      placing-one (placing-rest first p)
-
-  pub put-none : n ≤ top → top ≤ length old → Placing top (take n «open») old top (drop 0 (take n «open»)) old
-  put-none k h = placing-start (record { room = omega (arith, length-take n «open»); within = h })
-
-  pub put-all : {at : ℕ} {a : List ℕ} (end i : ℕ) → n ≤ i → top ≡ end + n → top ≤ itemListLimit → top ≤ length old
-      → Placing top (take n «open») old at (drop i (take n «open»)) a → Listed a top (take n «open» ++ stack old end)
-  put-all {a} end i all e most room p =
-      let q = placing-end (placing-rest (drop-of-length-le (take n «open») {i = i} (omega (arith, length-take n «open»))) p) in
-      let count : length (take n «open») ≡ n = omega (arith, length-take n «open») in
-      let left : top - length (take n «open») ≡ end = omega arith in
-      record {
-        shown =
-            ap (λ (l : List ℕ). stack l top) (q .whole)
-            ∙ placed-stack top (take n «open») old (omega arith) room
-            ∙ ap (λ (m : ℕ). take n «open» ++ stack old m) left;
-        within = most;
-        held = rw (p .size) room;
-      }
+-- Open dependencies put before the front.
+pub put-listed : {entries old list : List ℕ} {end r : ℕ} → Prepended entries old end list r → length list ≡ length old
+    → end + length entries ≤ itemListLimit → end + length entries ≤ length old → Listed list r (entries ++ stack old end)
+put-listed p size most room = record { shown = p .shown; within = omega (arith, p .count); held = omega (arith, p .count) }
 
 -- No more dependencies are found than there are items.
 pub found-most : {g : Group} {items : List ℕ} {pairs : List (ℕ × ℕ)} {width x : ℕ} {moved «open» : List ℕ} {count : ℕ} → WellFormed g

@@ -6,6 +6,7 @@ use project::kinds::Kind;
 use project::kinds::decoded;
 use split::Split;
 use split::first_list;
+use split::push_entries;
 ghost use Prim.Native.Nat.{ℕ, _+_, _*_, _-_, _≤_, _<_};
 ghost use mathlib.Core.Path.{_≡_};
 ghost use mathlib.Core.Bool.{false, not, _&&_};
@@ -213,17 +214,10 @@ fn put_open(list: &mut [u16], open: &[u16], n: usize, w: ItemWalk) -> Outcome
     requires { ⌜ Listed (now list) (w .end) (stack (now list) (w .end)) × (n ≤ length (now «open»)) × Fits (w .end + n) (now list) ⌝ }
     ensures { λ r. ⌜ Relisted (take n (now («open» .entry)) ++ stack (now (list .entry)) (w .end)) (w .placed) (now (list .exit)) r ⌝ }
 {
-    let end = w.end + n;
-    if ItemWalk::LIST < end {
+    if ItemWalk::LIST < w.end + n {
         return Outcome::ListFull;
     }
-    let mut at = end;
-    let mut i = 0;
-    while i < n {
-        at -= 1;
-        list[at] = open[i];
-        i += 1;
-    }
+    let end = push_entries(&open[..n], list, w.end);
     Outcome::WentOn(ItemWalk {
         end,
         placed: w.placed,

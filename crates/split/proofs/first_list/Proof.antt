@@ -14,8 +14,8 @@ push-ranges-requires c κs =
     let numbers = c .before .before .before .push-numbers in
     (start .pre .0, ranges-listable (start .pre .1) (numbers .ensures) (numbers .kept .1 .1 .0))
 
-push-starts-requires : tie.Need-push-starts-requires
-push-starts-requires c κs =
+push-entries-requires : tie.Need-push-entries-requires
+push-entries-requires c κs =
     let start = c .before .before .before .before .before .before .before .before .before .before .before .before .before in
     let numbers = c .before .before .before .before .before .before .before .push-numbers in
     let ranges = c .before .before .before .push-ranges in
@@ -29,10 +29,10 @@ returns : tie.Need-returns
 returns c =
     let numbers = c .before .before .before .before .before .before .before .before .before .before .push-numbers in
     let ranges = c .before .before .before .before .before .before .push-ranges in
-    let first = c .before .before .push-starts in
+    let first = c .before .before .push-entries in
     λ g h. first-listed h (numbers .ensures) (ranges .ensures g (ranges-listable h (numbers .ensures) (numbers .kept .1 .1 .0))) (first .ensures)
 
 pub first-list-spec : {M : Type 1} → statement M
 first-list-spec =
     tie.close
-    (tie.spec push-numbers-requires push-ranges-requires push-starts-requires same-length returns)
+    (tie.spec push-numbers-requires push-ranges-requires push-entries-requires same-length returns)
