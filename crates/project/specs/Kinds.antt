@@ -1,5 +1,5 @@
 -- What the code's kinds of items mean, by the paper's tests on kind numbers. Assumes nothing.
-use Prim.Native.Nat.{ℕ, zero, suc}
+use Prim.Native.Nat.{ℕ}
 use mathlib.Core.Path.{_≡_}
 use mathlib.Core.Bool.{Bool, true, false}
 use lib.Dec.{eqb, ltb}
@@ -41,36 +41,8 @@ mayDropBy Injected weight = false
 mayDropBy Dropped weight = false
 mayDropBy Refused weight = false
 
--- The case of a kind number.
-unfoldable pub caseOf : ℕ → Kind
-caseOf zero = Plain
-caseOf (suc zero) = MayDropAll
-caseOf (suc (suc zero)) = MayDropAll
-caseOf (suc (suc (suc zero))) = MayDropWeak
-caseOf (suc (suc (suc (suc zero)))) = Injected
-caseOf (suc (suc (suc (suc (suc zero))))) = Dropped
-caseOf (suc (suc (suc (suc (suc (suc n)))))) = Refused
-
--- The number that stands for a case in an array, and the case that such a number stands for.
-abbrev pub codeOf : Kind → ℕ
-codeOf Plain = 0
-codeOf MayDropAll = 1
-codeOf MayDropWeak = 2
-codeOf Injected = 3
-codeOf Dropped = 4
-codeOf Refused = 5
-
-unfoldable pub decoded : ℕ → Kind
-decoded zero = Plain
-decoded (suc zero) = MayDropAll
-decoded (suc (suc zero)) = MayDropWeak
-decoded (suc (suc (suc zero))) = Injected
-decoded (suc (suc (suc (suc zero)))) = Dropped
-decoded (suc (suc (suc (suc (suc n))))) = Refused
-
--- It is the case of a kind number, and says of it what the paper's tests say.
+-- A case says of a kind number what the paper's tests say of it.
 pub record Says (k : Kind) (kind : ℕ) : Type 0 where
-  pub is-case : k ≡ caseOf kind
   pub above : ltb 5 kind ≡ isRefused k
   pub kept : isKept kind ≡ keptBy k
   pub injected : isInjected kind ≡ injectedBy k

@@ -5,12 +5,11 @@ use mathlib.Core.List.{List}
 use lib.ListN.{length, getD}
 use Rattle.rules.specs.Items.{rangeOf, Group, kindOf}
 use Rattle.laws.specs.Splits.{size}
-use Rattle.project.specs.Kinds.{decoded, Says}
 
--- The kinds of a group's numbers, as codes: each says of its number what the paper's tests say of its kind.
+-- The kinds of a group's numbers.
 pub record Kinds (g : Group) (kinds : List ℕ) : Type 0 where
   pub room : size g ≤ length kinds
-  pub each : (x : ℕ) → x < size g → Says (decoded (getD kinds x 0)) (kindOf g x)
+  pub each : (x : ℕ) → x < size g → getD kinds x 0 ≡ kindOf g x
 
 -- The range that holds x is `low` to `high`, without `high`; where there is none, both are 0.
 pub record RangeIs (g : Group) (x low high : ℕ) : Type 0 where

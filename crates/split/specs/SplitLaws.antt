@@ -19,12 +19,11 @@ use Rattle.laws.specs.FirstList.{length-ranges}
 use Rattle.lists.specs.Pairs.{chain}
 use Rattle.lists.specs.ChainLaws.{chain-step, left, left-less}
 use Rattle.project.specs.RowLaws.{pairs-length}
-use Rattle.project.specs.Kinds.{keptBy, injectedBy, caseOf, codeOf, decoded, Says}
-use Rattle.project.specs.KindLaws.{says, decoded-code}
+use Rattle.project.specs.Kinds.{keptBy, injectedBy, Says}
 use Rattle.project.specs.declared.kinds.Kind.{Kind}
 use Rattle.project.specs.declared.kinds.Kind.the-variants.{Plain, MayDropAll, MayDropWeak, Injected, Dropped, Refused}
 use Rattle.split.specs.Shown.{Kinds, Ranges}
-use Rattle.split.specs.Splits.{codeAt, keptAs, keptAsBy, rowsAs, numberedAs, RowsAlong, NumberRoom, Numbered, RangeNoted, lows, highs, startsIn, RangesRoom, RangesNoted, SplitRoom, Splits, noRanges, SplitStored}
+use Rattle.split.specs.Splits.{keptAs, keptAsBy, rowsAs, numberedAs, RowsAlong, NumberRoom, Numbered, RangeNoted, lows, highs, startsIn, RangesRoom, RangesNoted, SplitRoom, Splits, noRanges, SplitStored}
 
 -- Positions: of entries that pass equal tests, and of those that pass two.
 keep-consIf : (test : ℕ → Bool) (b : Bool) (n : ℕ) (l : List ℕ) → keep test (consIf b n l) ≡ consIf (b && test n) n (keep test l)
@@ -132,9 +131,6 @@ module _ {p : Project} {m : ℕ} {items next : List ℕ} {head : ℕ} (a : RowsA
       → r ≡ keptAsBy k injected → keptAs injected (kindAt p row) ≡ r
   test-read injected row {k} h says e = ap (keptAs injected) (kind-read row h) ∙ sym (kept-as k injected says) ∙ sym e
 
-  pub code-read : (row : ℕ) {k : Kind} → row < length (p .items) → Says k (getD items (2 * row + 1) 0) → codeAt p row ≡ codeOf k
-  code-read row h says = ap (λ (n : ℕ). codeOf (caseOf n)) (kind-read row h) ∙ sym (ap codeOf (says .is-case))
-
   -- the measure of a loop along the chain
   pub rows-less : (e : ℕ) → 0 < e → e ≤ length (p .items) → left (length items / 2) (getD next (e - 1) 0) < left (length items / 2) e
   rows-less e h g =
@@ -151,7 +147,7 @@ pub record Numbering (p : Project) (injected : Bool) (next : List ℕ) (e : ℕ)
   pub rest : List ℕ
   pub rest-is : rest ≡ rowsFrom injected p next (length (p .items)) e
   pub rows-same : sets rows n rest ≡ sets rows₀ count numbered
-  pub kinds-same : sets kinds n (map (codeAt p) rest) ≡ sets kinds₀ count (map (codeAt p) numbered)
+  pub kinds-same : sets kinds n (map (kindAt p) rest) ≡ sets kinds₀ count (map (kindAt p) numbered)
   pub count-same : n + length rest ≡ count + length numbered
 
 rowsFrom-end : (injected : Bool) (p : Project) (next : List ℕ) (bound : ℕ) → rowsFrom injected p next bound 0 ≡ []
@@ -204,15 +200,15 @@ module _ {p : Project} {m : ℕ} {items next : List ℕ} {head : ℕ} (a : RowsA
     pub numbering-room : 0 < e → test (e - 1) ≡ true → n < count + length numbered
     numbering-room h t = omega (arith, ap length (rest-one h t), s .count-same)
 
-    pub numbering-one : {code : ℕ} → 0 < e → test (e - 1) ≡ true → codeAt p (e - 1) ≡ code
-        → Numbering p injected next (getD next (e - 1) 0) numbered count rows₀ kinds₀ (n + 1) (set rows n (e - 1)) (set kinds n code)
+    pub numbering-one : {kind : ℕ} → 0 < e → test (e - 1) ≡ true → kindAt p (e - 1) ≡ kind
+        → Numbering p injected next (getD next (e - 1) 0) numbered count rows₀ kinds₀ (n + 1) (set rows n (e - 1)) (set kinds n kind)
     numbering-one h t k =
         record {
           most = a .next-onward (e - 1) (omega (arith, s .most)) .1;
           rest = from (getD next (e - 1) 0);
           rest-is = refl;
           rows-same = rw add-one (sym (ap (sets rows n) (rest-one h t)) ∙ s .rows-same);
-          kinds-same = rw (add-one, ← k) (sym (ap (λ (l : List ℕ). sets kinds n (map (codeAt p) l)) (rest-one h t)) ∙ s .kinds-same);
+          kinds-same = rw (add-one, ← k) (sym (ap (λ (l : List ℕ). sets kinds n (map (kindAt p) l)) (rest-one h t)) ∙ s .kinds-same);
           count-same = omega (arith, ap length (rest-one h t), s .count-same);
         }
 
@@ -221,7 +217,7 @@ module _ {p : Project} {m : ℕ} {items next : List ℕ} {head : ℕ} (a : RowsA
         let done : s .rest ≡ [] = s .rest-is ∙ ap from h ∙ rowsFrom-end injected p next (length (p .items)) in
         record {
           rows-whole = sym (ap (sets rows n) done) ∙ s .rows-same;
-          kinds-whole = sym (ap (λ (l : List ℕ). sets kinds n (map (codeAt p) l)) done) ∙ s .kinds-same;
+          kinds-whole = sym (ap (λ (l : List ℕ). sets kinds n (map (kindAt p) l)) done) ∙ s .kinds-same;
           count = omega (arith, ap length done, s .count-same);
         }
 
@@ -239,7 +235,7 @@ sets-part a n s t e f g = rw (f, g) (sym (sets-append a n s t) ∙ e)
 pub numbered-size : {p : Project} {numbered : List ℕ} {n : ℕ} {rows kinds rows′ kinds′ : List ℕ} {n′ : ℕ}
     → Numbered p numbered n rows kinds rows′ kinds′ n′ → (length rows′ ≡ length rows) × (length kinds′ ≡ length kinds)
 numbered-size {p} {numbered} {n} {rows} {kinds} d =
-    (ap length (d .rows-whole) ∙ length-sets rows n numbered, ap length (d .kinds-whole) ∙ length-sets kinds n (map (codeAt p) numbered))
+    (ap length (d .rows-whole) ∙ length-sets rows n numbered, ap length (d .kinds-whole) ∙ length-sets kinds n (map (kindAt p) numbered))
 
 -- the modules from i on
 pub modules-left : (modules : List ℕ) (i : ℕ) → i < length modules → drop i modules ≡ getD modules i 0 ∷ drop (i + 1) modules
@@ -249,7 +245,7 @@ modules-left modules i h = rw add-one (drop-cons modules i 0 h)
 pub record NumberingModules (p : Project) (injected : Bool) (modules : List ℕ) (numbered : List ℕ) (count : ℕ) (rows₀ kinds₀ : List ℕ) (n : ℕ)
     (rows kinds : List ℕ) : Type 0 where
   pub rows-same : sets rows n (numberedAs injected p modules) ≡ sets rows₀ count numbered
-  pub kinds-same : sets kinds n (map (codeAt p) (numberedAs injected p modules)) ≡ sets kinds₀ count (map (codeAt p) numbered)
+  pub kinds-same : sets kinds n (map (kindAt p) (numberedAs injected p modules)) ≡ sets kinds₀ count (map (kindAt p) numbered)
   pub count-same : n + length (numberedAs injected p modules) ≡ count + length numbered
 
 module _ {p : Project} {injected : Bool} {numbered : List ℕ} {count : ℕ} {rows₀ kinds₀ : List ℕ} {n : ℕ} {rows kinds : List ℕ} where
@@ -269,9 +265,9 @@ module _ {p : Project} {injected : Bool} {numbered : List ℕ} {count : ℕ} {ro
       record {
         rows-same = sets-part rows n run rest (sym (ap (λ (l : List ℕ). sets rows n (numberedAs injected p l)) e) ∙ s .rows-same) (d .rows-whole) (d .count);
         kinds-same =
-            sets-part kinds n (map (codeAt p) run) (map (codeAt p) rest)
-            (sym (ap (sets kinds n) (map-append (codeAt p) run rest)) ∙ sym (ap (λ (l : List ℕ). sets kinds n (map (codeAt p) (numberedAs injected p l))) e) ∙ s .kinds-same)
-            (d .kinds-whole) (omega (arith, d .count, length-map run (codeAt p)));
+            sets-part kinds n (map (kindAt p) run) (map (kindAt p) rest)
+            (sym (ap (sets kinds n) (map-append (kindAt p) run rest)) ∙ sym (ap (λ (l : List ℕ). sets kinds n (map (kindAt p) (numberedAs injected p l))) e) ∙ s .kinds-same)
+            (d .kinds-whole) (omega (arith, d .count, length-map run (kindAt p)));
         count-same =
             omega (arith, ap (λ (l : List ℕ). length (numberedAs injected p l)) e, length-append run rest, s .count-same, d .count);
       }
@@ -282,7 +278,7 @@ module _ {p : Project} {injected : Bool} {numbered : List ℕ} {count : ℕ} {ro
   modules-end e s =
       record {
         rows-whole = sym (ap (λ (l : List ℕ). sets rows n (numberedAs injected p l)) e) ∙ s .rows-same;
-        kinds-whole = sym (ap (λ (l : List ℕ). sets kinds n (map (codeAt p) (numberedAs injected p l))) e) ∙ s .kinds-same;
+        kinds-whole = sym (ap (λ (l : List ℕ). sets kinds n (map (kindAt p) (numberedAs injected p l))) e) ∙ s .kinds-same;
         count = omega (arith, ap (λ (l : List ℕ). length (numberedAs injected p l)) e, s .count-same);
       }
 
@@ -364,10 +360,10 @@ module _ {p : Project} (modules : List ℕ) {rows kinds rows′ kinds′ rows″
             second .rows-whole ∙ ap (λ (l : List ℕ). sets l u behind) (first .rows-whole) ∙ ap (λ (k : ℕ). sets (sets rows 0 run) k behind) (first .count)
             ∙ sym (sets-append rows 0 run behind);
         kinds-whole =
-            second .kinds-whole ∙ ap (λ (l : List ℕ). sets l u (map (codeAt p) behind)) (first .kinds-whole)
-            ∙ ap (λ (k : ℕ). sets (sets kinds 0 (map (codeAt p) run)) k (map (codeAt p) behind)) (omega (arith, first .count, length-map run (codeAt p)))
-            ∙ sym (sets-append kinds 0 (map (codeAt p) run) (map (codeAt p) behind))
-            ∙ sym (ap (sets kinds 0) (map-append (codeAt p) run behind));
+            second .kinds-whole ∙ ap (λ (l : List ℕ). sets l u (map (kindAt p) behind)) (first .kinds-whole)
+            ∙ ap (λ (k : ℕ). sets (sets kinds 0 (map (kindAt p) run)) k (map (kindAt p) behind)) (omega (arith, first .count, length-map run (kindAt p)))
+            ∙ sym (sets-append kinds 0 (map (kindAt p) run) (map (kindAt p) behind))
+            ∙ sym (ap (sets kinds 0) (map-append (kindAt p) run behind));
         count = omega (arith, first .count, second .count, length-append run behind);
       }
 
@@ -379,20 +375,16 @@ module _ {p : Project} (modules : List ℕ) {rows kinds rows′ kinds′ rows″
   pub kinds-shown : length (numbering p modules) ≤ length kinds → Kinds (groupOf p modules) kinds″
   unfolding groupOf kindOf
   kinds-shown h =
-      let all : List ℕ = map (codeAt p) (numbering p modules) in
-      let size : length all ≡ length (numbering p modules) = length-map (numbering p modules) (codeAt p) in
+      let all : List ℕ = map (kindAt p) (numbering p modules) in
+      let size : length all ≡ length (numbering p modules) = length-map (numbering p modules) (kindAt p) in
       let room : length all ≤ length kinds = omega arith in
       record {
-        room = omega (arith, ap length (both-numbered .kinds-whole), length-sets kinds 0 all, length-map (numbering p modules) (kindAt p));
+        room = omega (arith, ap length (both-numbered .kinds-whole), length-sets kinds 0 all);
         each =
             λ x k.
-            let below : x < length (numbering p modules) = omega (arith, length-map (numbering p modules) (kindAt p)) in
-            let row = getD (numbering p modules) x 0 in
-            let stored : getD kinds″ x 0 ≡ codeAt p row =
-            ap (λ (l : List ℕ). getD l x 0) (both-numbered .kinds-whole) ∙ sets-getD all kinds x room (omega arith)
-            ∙ getD-map (codeAt p) (numbering p modules) x 0 0 below in
-            let case : decoded (getD kinds″ x 0) ≡ caseOf (kindAt p row) = ap decoded stored ∙ decoded-code (caseOf (kindAt p row)) in
-            rw (case, getD-map (kindAt p) (numbering p modules) x 0 5 below) (says (kindAt p row));
+            ap (λ (l : List ℕ). getD l x 0) (both-numbered .kinds-whole) ∙ sets-getD all kinds x room k
+            ∙ getD-map (kindAt p) (numbering p modules) x 0 0 (omega arith)
+            ∙ sym (getD-map (kindAt p) (numbering p modules) x 0 5 (omega arith));
       }
 
 -- The starts of a group's ranges.

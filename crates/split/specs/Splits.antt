@@ -11,7 +11,6 @@ use Rattle.rules.specs.Project.{Item, Project, itemLimit, itemRow, pairRows}
 use Rattle.rules.specs.Items.{isKept, isInjected, kindAt, uninjectedRows, injectedRows, numbering, Range, rangesFrom, groupOf, starts as startsOf}
 use Rattle.split.specs.Shown.{Kinds, Ranges}
 use Rattle.split.specs.declared.Split.{Split}
-use Rattle.project.specs.Kinds.{caseOf, codeOf}
 use Rattle.project.specs.declared.kinds.Kind.{Kind}
 use Rattle.project.specs.declared.kinds.Kind.the-variants.{Plain, MayDropAll, MayDropWeak, Injected, Dropped, Refused}
 use Rattle.lists.specs.Pairs.{chain, Onward}
@@ -58,14 +57,10 @@ pub record NumberRoom (numbered : List ℕ) (n : ℕ) (rows kinds : List ℕ) : 
   pub rows-room : n + length numbered ≤ length rows
   pub kinds-room : n + length numbered ≤ length kinds
 
--- What stands for a row's kind.
-abbrev pub codeAt : Project → ℕ → ℕ
-codeAt p row = codeOf (caseOf (kindAt p row))
-
--- Rows and the codes of their kinds written from number n on; n′ is the next number.
+-- Rows and their kinds written from number n on; n′ is the next number.
 pub record Numbered (p : Project) (numbered : List ℕ) (n : ℕ) (rows kinds rows′ kinds′ : List ℕ) (n′ : ℕ) : Type 0 where
   pub rows-whole : rows′ ≡ sets rows n numbered
-  pub kinds-whole : kinds′ ≡ sets kinds n (map (codeAt p) numbered)
+  pub kinds-whole : kinds′ ≡ sets kinds n (map (kindAt p) numbered)
   pub count : n′ ≡ n + length numbered
 
 -- The range of one module, at each of its numbers.
@@ -127,7 +122,7 @@ noRanges p modules = replicate (length (flatMap (injectedRows p) modules)) 0
 -- Each array whole: what the split writes stands from its first place on, and behind it what stood there before.
 pub record SplitStored (p : Project) (modules rows kinds low high starts rows′ kinds′ low′ high′ starts′ : List ℕ) : Type 0 where
   pub rows-whole : rows′ ≡ sets rows 0 (numbering p modules)
-  pub kinds-whole : kinds′ ≡ sets kinds 0 (map (codeAt p) (numbering p modules))
+  pub kinds-whole : kinds′ ≡ sets kinds 0 (map (kindAt p) (numbering p modules))
   pub low-whole : low′ ≡ sets low 0 (lows (rangesFrom p 0 modules) ++ noRanges p modules)
   pub high-whole : high′ ≡ sets high 0 (highs (rangesFrom p 0 modules) ++ noRanges p modules)
   pub starts-whole : starts′ ≡ sets starts 0 (startsIn (rangesFrom p 0 modules))

@@ -2,7 +2,6 @@
 pub mod chains;
 
 use project::kinds::Kind;
-use project::kinds::code_of;
 use project::kinds::kind_of;
 ghost use Prim.Native.Nat.{ℕ, _+_, _-_, _≤_};
 ghost use mathlib.Core.Path.{_≡_};
@@ -48,10 +47,10 @@ fn number_rows(
     let mut e = head as usize;
     while e != 0 {
         let row = e - 1;
-        let kind = kind_of(items[2 * row + 1]);
-        if is_kept_as(kind, injected) {
+        let kind = items[2 * row + 1];
+        if is_kept_as(kind_of(kind), injected) {
             rows[n] = row as u16;
-            kinds[n] = code_of(kind);
+            kinds[n] = kind;
             n += 1;
         }
         e = next[row] as usize;
@@ -144,7 +143,7 @@ pub struct Split {
     pub count: usize,
 }
 
-// Splits the kept items of modules: numbers them, with the codes of their kinds, the ranges and their starts. An injected number has no range.
+// Splits the kept items of modules: numbers them, with the kinds, the ranges and their starts. An injected number has no range.
 pub fn split_items(
     items: &[u8],
     next: &[u16],

@@ -9,7 +9,6 @@ use lib.Dec.{ltb}
 use lib.ListN.{length, getD, take, set, length-take}
 use Rattle.rules.specs.Lists.{isEmpty, keep, elem}
 use Rattle.rules.specs.Paths.{dependenciesOf}
-use Rattle.project.specs.Kinds.{decoded, injectedBy}
 use Rattle.rules.specs.Items.{isInjected, Range, inRange, rangeOf, numbersOf, Group, kindOf, ItemState, itemState, hasMoved, Opened, opened, findOpen, isDropped, waiting, oneByOne, preceding, afterPreceding, afterOpen, visitItem, itemList, placedOf}
 use Rattle.laws.specs.Lists.{_∈_, false≢true, ∈-self, elem-false, both, keep-∈, not-true, next}
 use Rattle.laws.specs.Counting.{below-length, below-cons}
@@ -138,16 +137,16 @@ module _ {g : Group} {to heads-out next-out from heads-in next-in paths weak kin
       none-stay : staying g x openOf ≡ opened [] (f .after)
       none-stay = f .found ∙ ap (λ (n : ℕ). opened (take n open′) (f .after)) nothing
 
-      pub visit-injected : injectedBy (decoded (getD kinds x 0)) ≡ true → {placed′ order′ list′ : List ℕ} {r : Outcome}
+      pub visit-injected : isInjected (getD kinds x 0) ≡ true → {placed′ order′ list′ : List ℕ} {r : Outcome}
           → Put (size g) (oneByOne (waiting g items x) rest) (x ∷ items) placed′ order′ list′ r
           → Came g items (visitItem g state) width placed′ moved′ order′ list′ r
       visit-injected i q =
-          let injected : isInjected (kindOf g x) ≡ true = h .laid .kinds-shown .each x front-below .injected ∙ i in
+          let injected : isInjected (kindOf g x) ≡ true = ap isInjected (sym (h .laid .kinds-shown .each x front-below)) ∙ i in
           rw (visit-open, after-injected g x rest items openOf none-stay injected) (came-put (f .after) (f .shown) q)
 
-      module _ (other : injectedBy (decoded (getD kinds x 0)) ≡ false) where
+      module _ (other : isInjected (getD kinds x 0) ≡ false) where
         uninjected : isInjected (kindOf g x) ≡ false
-        uninjected = h .laid .kinds-shown .each x front-below .injected ∙ other
+        uninjected = ap isInjected (sym (h .laid .kinds-shown .each x front-below)) ∙ other
 
         pub settling : Settling g from heads-in next-in kinds (getD low x 0) width placed moved′ order list w x rest items (f .after)
         settling =

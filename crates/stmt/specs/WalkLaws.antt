@@ -13,7 +13,7 @@ use borrow.Author.Tests.{ltb-true, lt-ltb, le-ltb, le-leb, lt-leb}
 use Rattle.rules.specs.Lists.{any, consIf, keep, elem, upFrom}
 use Rattle.rules.specs.Project.{Need, itemLimit, needLimit}
 use Rattle.rules.specs.Paths.{dependenciesOf, dependantsOf}
-use Rattle.rules.specs.Items.{isInjected, inRange, rangeOf, Group, kindOf, pathHolds, weightOf, sameRange, hasMoved, Opened, opened, withOpen, findOpen, isDropped, waiting, oneByOne, preceding, numbersOf}
+use Rattle.rules.specs.Items.{isInjected, mayDrop, inRange, rangeOf, Group, kindOf, pathHolds, weightOf, sameRange, hasMoved, Opened, opened, withOpen, findOpen, isDropped, waiting, oneByOne, preceding, numbersOf}
 use Rattle.rules.specs.Calls.{itemListLimit}
 use Rattle.laws.specs.Lists.{Tested, holds, fails, tested, _∈_, both, keep-∈, upFrom-∈, length-parts, once-different, eqb-sym}
 use Rattle.laws.specs.Splits.{size, WellFormed, inRange-true}
@@ -26,8 +26,6 @@ use Rattle.lists.specs.Stacks.{stack}
 use Rattle.lists.specs.StackLaws.{stack-length, stack-push}
 use Rattle.lists.specs.Pairs.{targets}
 use Rattle.lists.specs.ChainLaws.{left, targets-end, targets-step}
-use Rattle.project.specs.Kinds.{decoded, injectedBy, mayDropBy}
-use Rattle.project.specs.declared.kinds.Kind.{Kind}
 use Rattle.graph.specs.Graph.{isMaybe, Chained}
 use Rattle.split.specs.Shown.{RangeIs}
 use Rattle.split.specs.FirstLists.{Pushed as Prepended}
@@ -76,7 +74,7 @@ range-behind {g} {x} d r h k =
     let q = rangeOf (g .ranges) x in
     rw (le-leb (q .start) d (omega arith), le-ltb d (q .start + q .count) (omega arith))
 
-module _ {g : Group} {pairs : List (ℕ × ℕ)} {paths moved : List ℕ} {width x d : ℕ} {kind : Kind} {low high : ℕ}
+module _ {g : Group} {pairs : List (ℕ × ℕ)} {paths moved : List ℕ} {width x d kind low high : ℕ}
     (s : Skippable g pairs paths moved width x d kind low high) where
   pub skipped-inside : low ≤ d → d < high → Skipped g pairs moved width x d true
   unfolding findOpen
@@ -88,15 +86,15 @@ module _ {g : Group} {pairs : List (ℕ × ℕ)} {paths moved : List ℕ} {width
       }
 
   module _ (outside : sameRange g x d ≡ false) where
-    pub passed-injected : injectedBy kind ≡ true → Skipped g pairs moved width x d false
+    pub passed-injected : isInjected kind ≡ true → Skipped g pairs moved width x d false
     unfolding findOpen
     passed-injected e =
-        let injected : isInjected (kindOf g x) ≡ true = s .kind-is .injected ∙ e in
+        let injected : isInjected (kindOf g x) ≡ true = ap isInjected (sym (s .kind-is)) ∙ e in
         record { after = pairs; shown = s .moved-shown; step = λ placed rest. rw (outside, injected, findOpen) }
 
-    module _ (other : injectedBy kind ≡ false) where
+    module _ (other : isInjected kind ≡ false) where
       uninjected : isInjected (kindOf g x) ≡ false
-      uninjected = s .kind-is .injected ∙ other
+      uninjected = ap isInjected (sym (s .kind-is)) ∙ other
 
       pub passed-pathless : pathHolds g d x ≡ false → Skipped g pairs moved width x d false
       unfolding findOpen
@@ -121,7 +119,7 @@ module _ {g : Group} {pairs : List (ℕ × ℕ)} {paths moved : List ℕ} {width
           }
 
 -- Whether a dependency that is not skipped stays.
-module _ {g : Group} {items paths weak placed : List ℕ} {width x d : ℕ} {kind : Kind} (t : Testable g items paths weak placed width x d kind) where
+module _ {g : Group} {items paths weak placed : List ℕ} {width x d kind : ℕ} (t : Testable g items paths weak placed width x d kind) where
   pub path-bit : bitAt paths (d * width + x) ≡ pathHolds g d x
   path-bit = t .paths-shown .bits d x (t .d-below) (t .x-below)
 
@@ -138,10 +136,10 @@ module _ {g : Group} {items paths weak placed : List ℕ} {width x d : ℕ} {kin
     stays-pathless e = rw (unplaced, sym path-bit ∙ e)
 
     pub stays-undropped : bitAt paths (d * width + x) ≡ true → {r : Bool}
-        → ((weight : ℕ) → bitAt weak (x * width + d) ≡ eqb weight 1 → r ≡ mayDropBy kind weight) → stays g items x d ≡ not r
+        → ((weight : ℕ) → bitAt weak (x * width + d) ≡ eqb weight 1 → r ≡ mayDrop kind weight) → stays g items x d ≡ not r
     unfolding stays isDropped isMaybe weightOf
     stays-undropped e {r} f =
-        rw (unplaced, sym path-bit ∙ e, t .kind-is .drops (weightOf g x d))
+        rw (unplaced, sym path-bit ∙ e, ← t .kind-is)
         (ap not (sym (f (weightOf g x d) (t .weak-shown .bits x d (t .x-below) (t .d-below)))))
 
 -- Along a chain.
@@ -242,24 +240,24 @@ dependencies-most {g} w x =
 -- What the tests on a dependency ask for.
 module _ {g : Group} {items : List ℕ} {pairs : List (ℕ × ℕ)} {to heads next paths weak kinds low high : List ℕ} {width : ℕ} {placed moved «open» : List ℕ}
     {x : ℕ} (f : Findable g items pairs to heads next paths weak kinds low high width placed moved «open» x) {d : ℕ} (below : d < size g) where
-  pub skippable : {kind : Kind} → kind ≡ decoded (getD kinds x 0) → (after : List (ℕ × ℕ)) {moved′ : List ℕ} → Table (size g) width moved′ (hasMoved after)
-      → Skippable g after paths moved′ width x d kind (getD low x 0) (getD high x 0)
-  skippable e after t =
+  pub skippable : (after : List (ℕ × ℕ)) {moved′ : List ℕ} → Table (size g) width moved′ (hasMoved after)
+      → Skippable g after paths moved′ width x d (getD kinds x 0) (getD low x 0) (getD high x 0)
+  skippable after t =
       record {
         x-below = f .x-below;
         d-below = below;
-        kind-is = rw e (f .kinds-shown .each x (f .x-below));
+        kind-is = f .kinds-shown .each x (f .x-below);
         range-is = f .ranges-shown .each x (f .x-below);
         paths-shown = f .paths-shown;
         moved-shown = t;
       }
 
-  pub testable : {kind : Kind} → kind ≡ decoded (getD kinds x 0) → Testable g items paths weak placed width x d kind
-  testable e =
+  pub testable : Testable g items paths weak placed width x d (getD kinds x 0)
+  testable =
       record {
         x-below = f .x-below;
         d-below = below;
-        kind-is = rw e (f .kinds-shown .each x (f .x-below));
+        kind-is = f .kinds-shown .each x (f .x-below);
         paths-shown = f .paths-shown;
         weak-shown = f .weak-shown;
         placed-shown = f .placed-shown;
@@ -489,8 +487,8 @@ module _ (g : Group) (items : List ℕ) {from heads next : List ℕ} (l : Chaine
 
 -- whether a dependant is waiting, by its kind and the row of items placed
 pub waiting-bit : {g : Group} {items from heads next kinds placed : List ℕ} {x : ℕ} → Awaited g items from heads next kinds placed x → (d : ℕ) → d < size g
-    → (isInjected (kindOf g d) && not (elem d items)) ≡ (injectedBy (decoded (getD kinds d 0)) && not (bitAt placed d))
-waiting-bit a d h = rw (a .kinds-shown .each d h .injected, a .placed-shown .bits d h)
+    → (isInjected (kindOf g d) && not (elem d items)) ≡ (isInjected (getD kinds d 0) && not (bitAt placed d))
+waiting-bit a d h = rw (a .kinds-shown .each d h, a .placed-shown .bits d h)
 
 -- The items that precede x, from p on.
 module _ {g : Group} {items : List ℕ} {pairs : List (ℕ × ℕ)} {placed moved : List ℕ} {width low x : ℕ}

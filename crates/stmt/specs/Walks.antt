@@ -12,8 +12,6 @@ use Rattle.rules.specs.Items.{rangeOf, inRange, Group, kindOf, pathHolds, first
 use Rattle.rules.specs.Calls.{itemListLimit}
 use Rattle.laws.specs.Splits.{size, WellFormed}
 use Rattle.laws.specs.ItemWalk.{Walked}
-use Rattle.project.specs.Kinds.{Says}
-use Rattle.project.specs.declared.kinds.Kind.{Kind}
 use Rattle.graph.specs.Graph.{isMaybe, Chained}
 use Rattle.split.specs.declared.Split.{Split}
 use Rattle.split.specs.Shown.{Kinds, RangeIs, Ranges}
@@ -144,10 +142,10 @@ pub data Noted (k : ℕ) (old new : List ℕ) : Bool → Type 0 where
   had-moved : bitAt old k ≡ true → new ≡ old → Noted k old new true
 
 -- Step 2 for a dependency d of x: what it relies on, and what it gives: the pairs that have moved after it, and one step of the definition.
-pub record Skippable (g : Group) (pairs : List (ℕ × ℕ)) (paths moved : List ℕ) (width x d : ℕ) (kind : Kind) (low high : ℕ) : Type 0 where
+pub record Skippable (g : Group) (pairs : List (ℕ × ℕ)) (paths moved : List ℕ) (width x d kind low high : ℕ) : Type 0 where
   pub x-below : x < size g
   pub d-below : d < size g
-  pub kind-is : Says kind (kindOf g x)
+  pub kind-is : kind ≡ kindOf g x
   pub range-is : RangeIs g x low high
   pub paths-shown : Table (size g) width paths (pathHolds g)
   pub moved-shown : Table (size g) width moved (hasMoved pairs)
@@ -158,10 +156,10 @@ pub record Skipped (g : Group) (pairs : List (ℕ × ℕ)) (moved : List ℕ) (w
   pub step : (placed rest : List ℕ) → findOpen g placed x (d ∷ rest) pairs ≡ withOpen (not r && not (elem d placed)) d (findOpen g placed x rest after)
 
 -- Whether a dependency d of x that is not skipped stays: what that relies on, and the test.
-pub record Testable (g : Group) (items paths weak placed : List ℕ) (width x d : ℕ) (kind : Kind) : Type 0 where
+pub record Testable (g : Group) (items paths weak placed : List ℕ) (width x d kind : ℕ) : Type 0 where
   pub x-below : x < size g
   pub d-below : d < size g
-  pub kind-is : Says kind (kindOf g x)
+  pub kind-is : kind ≡ kindOf g x
   pub paths-shown : Table (size g) width paths (pathHolds g)
   pub weak-shown : Table (size g) width weak (isMaybe (reverse (g .needs)))
   pub placed-shown : Row (size g) placed (λ y. elem y items)

@@ -3,7 +3,7 @@ use graph::rows;
 use lists::bits;
 use project::NodeId;
 use project::kinds::Kind;
-use project::kinds::decoded;
+use project::kinds::kind_of;
 use split::Split;
 use split::first_list;
 use split::push_entries;
@@ -15,13 +15,13 @@ ghost use lib.Dec.{eqb, ltb};
 ghost use lib.ListN.{length, getD, take, set};
 ghost use Rattle.rules.specs.Lists.{elem};
 ghost use Rattle.rules.specs.Project.{itemLimit};
-ghost use Rattle.rules.specs.Items.{Group, ItemState, itemState, waiting, oneByOne, preceding as precedingOf, afterPreceding, visitItem, placedOf, itemWalk};
+ghost use Rattle.rules.specs.Items.{isInjected, Group, ItemState, itemState, waiting, oneByOne, preceding as precedingOf, afterPreceding, visitItem, placedOf, itemWalk};
 ghost use Rattle.rules.specs.Walk.{run as runs};
 ghost use Rattle.rules.specs.Calls.{itemListLimit};
 ghost use Rattle.lists.specs.Bits.{bitAt, Inserted};
 ghost use Rattle.lists.specs.Stacks.{stack};
 ghost use Rattle.laws.specs.Splits.{size};
-ghost use Rattle.project.specs.Kinds.{decoded as decodedBy, injectedBy, mayDropBy};
+ghost use Rattle.project.specs.Kinds.{injectedBy, mayDropBy};
 ghost use Rattle.stmt.specs.Walks.{Cell, Noted, Skippable, Skipped, Testable, stays as staysOpen, Findable, Found, Listed, Relisted, Awaited, Pushed, Precedable, First, Fits, Room, Front, Put, Settling, Walking, Startable, Started, SameVisits, Came, Ran};
 
 // The numbers of the walk's state: the end of the list and how many items are placed.
@@ -122,7 +122,7 @@ fn skips(
     width: usize,
     x: NodeId,
     d: NodeId,
-    kind: Kind,
+    kind: u8,
     low: u16,
     high: u16,
 ) -> bool
@@ -134,7 +134,7 @@ fn skips(
     if low <= d.0 && d.0 < high {
         return true;
     }
-    if is_injected(kind) {
+    if is_injected(kind_of(kind)) {
         return false;
     }
     if !has_pair(paths, width, d, x) {
@@ -151,7 +151,7 @@ fn stays(
     width: usize,
     x: NodeId,
     d: NodeId,
-    kind: Kind,
+    kind: u8,
 ) -> bool
     requires { ⌜ ((g : Group) × (items : List ℕ) × Testable g items (now paths) (now weak) (now placed) width (x .0) (d .0) kind) ⌝ }
     ensures { λ r. ⌜ ((g : Group) (items : List ℕ)
@@ -163,7 +163,7 @@ fn stays(
     if !has_pair(paths, width, d, x) {
         return true;
     }
-    !may_drop(kind, has_pair(weak, width, x, d))
+    !may_drop(kind_of(kind), has_pair(weak, width, x, d))
 }
 
 // The dependencies of x that stay, in their order, written to `open`; how many. Notes pairs as moved.
@@ -191,7 +191,7 @@ fn find_open(
         → Found g items pairs width (x .0) (now (moved .exit)) (now («open» .exit)) r) ⌝ }
 {
     let at = x.0 as usize;
-    let kind = decoded(kinds[at]);
+    let kind = kinds[at];
     let start = low[at];
     let end = high[at];
     let mut n = 0;
@@ -227,10 +227,10 @@ fn put_open(list: &mut [u16], open: &[u16], n: usize, w: ItemWalk) -> Outcome
 // Whether a dependant d is waiting: it is injected and not placed.
 fn is_waiting(kinds: &[u8], placed: &[u64], d: NodeId) -> bool
     requires { ⌜ (d .0 < length (now kinds)) × (d .0 < length (now placed) * 64) ⌝ }
-    ensures { λ r. ⌜ r ≡ (injectedBy (decodedBy (getD (now (kinds .entry)) (d .0) 0)) && not (bitAt (now (placed .entry)) (d .0))) ⌝ }
+    ensures { λ r. ⌜ r ≡ (isInjected (getD (now (kinds .entry)) (d .0) 0) && not (bitAt (now (placed .entry)) (d .0))) ⌝ }
 {
     let i = d.0 as usize;
-    is_injected(decoded(kinds[i])) && !bits::row_has(placed, i)
+    is_injected(kind_of(kinds[i])) && !bits::row_has(placed, i)
 }
 
 // Pushes the unplaced injected dependants of x one by one; the end then, or one more than the limit where they do not fit.
@@ -442,7 +442,7 @@ fn visit_unplaced(
         return put_open(list, open, n, w);
     }
     let at = x.0 as usize;
-    if is_injected(decoded(kinds[at])) {
+    if is_injected(kind_of(kinds[at])) {
         return place_injected(from, heads_in, next_in, kinds, placed, order, list, w, x);
     }
     visit_uninjected(

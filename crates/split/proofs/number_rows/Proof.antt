@@ -3,13 +3,13 @@
 use Prim.Native.Nat.{ℕ, _-_, _/_, _≤_, _<_}
 use borrow.Author.Needs.{needs}
 use native.Mathlib.Omega.{arith}
-use mathlib.Core.Path.{_≡_, refl, sym, ap, _∙_}
+use mathlib.Core.Path.{_≡_, refl, ap, _∙_}
 use mathlib.Core.Logic.{⊎-elim}
 use lib.ListN.{length, length-set}
 use Rattle.rules.specs.Project.{Project}
 use Rattle.lists.specs.ChainLaws.{left}
 use Rattle.split.specs.Splits.{rowsAs, RowsAlong}
-use Rattle.split.specs.SplitLaws.{code-read, kind-room, test-read, rows-less, Numbering, numbering-start, numbering-passed, numbering-room, numbering-one, numbering-end}
+use Rattle.split.specs.SplitLaws.{kind-read, kind-room, test-read, rows-less, Numbering, numbering-start, numbering-passed, numbering-room, numbering-one, numbering-end}
 use Rattle.split.proofs.number_rows.Statement.{statement}
 use Rattle.split.proofs.number_rows.Tie as tie
 
@@ -42,14 +42,14 @@ loop-holds c =
 sub-row : tie.Need-sub-row Inv-loop μ-loop
 sub-row c = omega arith
 
-mul-kind-of : tie.Need-mul-kind-of Inv-loop μ-loop
-mul-kind-of c = omega (arith, most (c .before), along (c .before) .most)
+mul-kind : tie.Need-mul-kind Inv-loop μ-loop
+mul-kind c = omega (arith, most (c .before), along (c .before) .most)
 
-add-kind-of : tie.Need-add-kind-of Inv-loop μ-loop
-add-kind-of c = omega (arith, most (c .before), along (c .before) .most)
+add-kind : tie.Need-add-kind Inv-loop μ-loop
+add-kind c = omega (arith, most (c .before), along (c .before) .most)
 
-shared-slice-read-kind-of : tie.Need-shared-slice-read-kind-of Inv-loop μ-loop
-shared-slice-read-kind-of c =
+shared-slice-read-kind : tie.Need-shared-slice-read-kind Inv-loop μ-loop
+shared-slice-read-kind c =
     let head = c .before .before in
     kind-room (along head) (head .loop .e - 1) (omega (arith, most head))
 
@@ -80,14 +80,11 @@ mul-rows c = omega (arith, room c)
 slice-write-rows : tie.Need-slice-write-rows Inv-loop μ-loop
 slice-write-rows c = room c .0
 
-code-of-requires : tie.Need-code-of-requires Inv-loop μ-loop
-code-of-requires c κs = search needs
-
 slice-write-kinds : tie.Need-slice-write-kinds Inv-loop μ-loop
-slice-write-kinds c = room (c .before) .1
+slice-write-kinds c = room c .1
 
 add-n : tie.Need-add-n Inv-loop μ-loop
-add-n c = omega (arith, room (c .before))
+add-n c = omega (arith, room c)
 
 mul-e : tie.Need-mul-e Inv-loop μ-loop
 mul-e c = let head = c .before .before .before .before .before in omega (arith, most head, along head .most)
@@ -109,8 +106,8 @@ loop-again : tie.Need-loop-again Inv-loop μ-loop
 loop-again c =
     let head = c .before .before .before .before .before .before in
     let start = entry head in (
-      ⊎-elim (λ w. ap length (w .2) ∙ simp length-set (head .loop .inv .0)) (λ w. ap length (w .1) ∙ head .loop .inv .0) (c .before .if1 .came),
-      ⊎-elim (λ w. ap length (w .3) ∙ simp length-set (head .loop .inv .1)) (λ w. ap length (w .2) ∙ head .loop .inv .1) (c .before .if1 .came),
+      ⊎-elim (λ w. ap length (w .1) ∙ simp length-set (head .loop .inv .0)) (λ w. ap length (w .1) ∙ head .loop .inv .0) (c .before .if1 .came),
+      ⊎-elim (λ w. ap length (w .2) ∙ simp length-set (head .loop .inv .1)) (λ w. ap length (w .2) ∙ head .loop .inv .1) (c .before .if1 .came),
       λ p m h.
           let at-head = head .loop .inv .2 p m h in
           let row = head .loop .e - 1 in
@@ -118,9 +115,7 @@ loop-again c =
           let test = test-read h (start .args .injected) row below (c .before .before .before .kind-of .ensures) (c .before .before .is-kept-as .ensures) in
           ⊎-elim
           (λ w.
-          rw (w .2, w .3, w .4)
-          (numbering-one h (start .args .injected) at-head (omega arith) (test ∙ w .0 .taken)
-          (code-read h row below (c .before .before .before .kind-of .ensures) ∙ sym (w .1 .ensures))))
+          rw (w .1, w .2, w .3) (numbering-one h (start .args .injected) at-head (omega arith) (test ∙ w .0 .taken) (kind-read h row below)))
           (λ w. rw (w .1, w .2, w .3) (numbering-passed h (start .args .injected) at-head (omega arith) (test ∙ w .0 .left)))
           (c .before .if1 .came),
     )
@@ -144,15 +139,14 @@ number-rows-spec =
     μ-loop
     loop-holds
     sub-row
-    mul-kind-of
-    add-kind-of
-    shared-slice-read-kind-of
+    mul-kind
+    add-kind
+    shared-slice-read-kind
     kind-of-requires
     is-kept-as-requires
     cast-rows
     mul-rows
     slice-write-rows
-    code-of-requires
     slice-write-kinds
     add-n
     mul-e

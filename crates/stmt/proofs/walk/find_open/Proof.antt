@@ -2,14 +2,12 @@
 -- of the definition. The measure is the number of places that may stand from e on. Assumes nothing.
 use Prim.Native.Nat.{ℕ, _-_, _≤_, _<_}
 use native.Mathlib.Omega.{arith}
-use borrow.Author.Needs.{needs}
 use mathlib.Core.Path.{_≡_, refl, sym, ap, _∙_}
 use mathlib.Core.Logic.{⊎-elim}
 use mathlib.Core.List.{List}
-use lib.ListN.{length, getD, length-set}
+use lib.ListN.{length, length-set}
 use Rattle.rules.specs.Project.{needLimit}
 use Rattle.rules.specs.Items.{Group}
-use Rattle.project.specs.Kinds.{decoded}
 use Rattle.lists.specs.ChainLaws.{left}
 use Rattle.stmt.specs.Walks.{Findable}
 use Rattle.stmt.specs.WalkLaws.{chain-less, end-below, Finding, finding-start, skippable, testable, finding-room, finding-kept, finding-skipped, finding-dropped, finding-end}
@@ -31,47 +29,39 @@ abbrev entry : tie.After-slice-known2 Inv-loop μ-loop → tie.Start Inv-loop μ
 entry c = c .before .before .before .before .before .before .before .before .before .before .before
 
 abbrev entry-of : tie.At-loop Inv-loop μ-loop → tie.Start Inv-loop μ-loop
-entry-of c = entry (c .before .before .before .before .before .before .before)
+entry-of c = entry (c .before .before .before .before .before .before)
 
 cast-at : tie.Need-cast-at Inv-loop μ-loop
 cast-at c = omega arith
 
-shared-slice-read-decoded : tie.Need-shared-slice-read-decoded Inv-loop μ-loop
-shared-slice-read-decoded c = let f = entry (c .before .before) .pre .3 in omega (arith, f .x-below, f .kinds-shown .room)
-
-decoded-requires : tie.Need-decoded-requires Inv-loop μ-loop
-decoded-requires c κs = search needs
+shared-slice-read-kind : tie.Need-shared-slice-read-kind Inv-loop μ-loop
+shared-slice-read-kind c = let f = entry (c .before .before) .pre .3 in omega (arith, f .x-below, f .kinds-shown .room)
 
 mul-start : tie.Need-mul-start Inv-loop μ-loop
-mul-start c = let f = entry (c .before .before .before) .pre .3 in omega (arith, f .x-below, f .paths-shown .within, f .paths-shown .most)
+mul-start c = let f = entry (c .before .before) .pre .3 in omega (arith, f .x-below, f .paths-shown .within, f .paths-shown .most)
 
 shared-slice-read-start : tie.Need-shared-slice-read-start Inv-loop μ-loop
-shared-slice-read-start c = let f = entry (c .before .before .before .before) .pre .3 in omega (arith, f .x-below, f .ranges-shown .low-size)
+shared-slice-read-start c = let f = entry (c .before .before .before) .pre .3 in omega (arith, f .x-below, f .ranges-shown .low-size)
 
 mul-end : tie.Need-mul-end Inv-loop μ-loop
-mul-end c = let f = entry (c .before .before .before .before) .pre .3 in omega (arith, f .x-below, f .paths-shown .within, f .paths-shown .most)
+mul-end c = let f = entry (c .before .before .before) .pre .3 in omega (arith, f .x-below, f .paths-shown .within, f .paths-shown .most)
 
 shared-slice-read-end : tie.Need-shared-slice-read-end Inv-loop μ-loop
-shared-slice-read-end c = let f = entry (c .before .before .before .before .before) .pre .3 in omega (arith, f .x-below, f .ranges-shown .high-size)
+shared-slice-read-end c = let f = entry (c .before .before .before .before) .pre .3 in omega (arith, f .x-below, f .ranges-shown .high-size)
 
 mul-e : tie.Need-mul-e Inv-loop μ-loop
-mul-e c = let f = entry (c .before .before .before .before .before) .pre .3 in omega (arith, f .x-below, f .paths-shown .within, f .paths-shown .most)
+mul-e c = let f = entry (c .before .before .before .before) .pre .3 in omega (arith, f .x-below, f .paths-shown .within, f .paths-shown .most)
 
 shared-slice-read-e : tie.Need-shared-slice-read-e Inv-loop μ-loop
-shared-slice-read-e c = let f = entry (c .before .before .before .before .before .before) .pre .3 in omega (arith, f .x-below, f .chained .heads-size)
+shared-slice-read-e c = let f = entry (c .before .before .before .before .before) .pre .3 in omega (arith, f .x-below, f .chained .heads-size)
 
 cast-e : tie.Need-cast-e Inv-loop μ-loop
-cast-e c = omega (arith, c .shared-slice-known13 .given (entry (c .before .before .before .before .before .before) .args .x .0))
+cast-e c = omega (arith, c .shared-slice-known13 .given (entry (c .before .before .before .before .before) .args .x .0))
 
 loop-holds : tie.Need-loop-holds Inv-loop μ-loop
 loop-holds c =
-    let a = entry (c .before .before .before .before .before .before) .args in
+    let a = entry (c .before .before .before .before .before) .args in
     (refl, refl, λ g items pairs f. finding-start g items pairs (f .chained) (a .width) (a .x .0) (f .x-below) (f .moved-shown))
-
--- the kind as it is stored
-stored : (c : tie.At-loop Inv-loop μ-loop)
-    → c .before .before .before .before .decoded .result ≡ decoded (getD (entry-of c .args .kinds .now) (entry-of c .args .x .0) 0)
-stored c = c .before .before .before .before .decoded .ensures
 
 -- what holds at the loop's head for the group that the contract names
 most : (c : tie.At-loop Inv-loop μ-loop) → c .loop .e ≤ entry-of c .pre .3 .chained .count
@@ -91,13 +81,13 @@ skips-requires c κs =
     let head = c .before .before .before in
     let f = entry-of head .pre .3 in
     let at-head = head .loop .inv .2 (entry-of head .pre .0) (entry-of head .pre .1) (entry-of head .pre .2) f in
-    (entry-of head .pre .0, at-head .after, skippable f (end-below (f .chained) (head .loop .e) (omega arith) (most head)) (stored head) (at-head .after) (at-head .shown))
+    (entry-of head .pre .0, at-head .after, skippable f (end-below (f .chained) (head .loop .e) (omega arith) (most head)) (at-head .after) (at-head .shown))
 
 stays-requires : tie.Need-stays-requires Inv-loop μ-loop
 stays-requires c κs =
     let head = c .before .before .before .before .before .before .before in
     let f = entry-of head .pre .3 in
-    (entry-of head .pre .0, entry-of head .pre .1, testable f (end-below (f .chained) (head .loop .e) (omega arith) (most head)) (stored head))
+    (entry-of head .pre .0, entry-of head .pre .1, testable f (end-below (f .chained) (head .loop .e) (omega arith) (most head)))
 
 slice-write-open : tie.Need-slice-write-open Inv-loop μ-loop
 slice-write-open c =
@@ -107,9 +97,9 @@ slice-write-open c =
     let f = start .pre .3 in
     let at-head = head .loop .inv .2 (start .pre .0) (start .pre .1) (start .pre .2) f in
     let below = end-below (f .chained) (head .loop .e) more (at-head .most) in
-    let k = c .before .before .before .before .before .skips .ensures (start .pre .0) (at-head .after) (skippable f below (stored head) (at-head .after) (at-head .shown)) in
+    let k = c .before .before .before .before .before .skips .ensures (start .pre .0) (at-head .after) (skippable f below (at-head .after) (at-head .shown)) in
     finding-room (start .pre .0) (start .pre .1) (start .pre .2) (f .chained) (start .args .width) (start .args .x .0) at-head more k
-    (c .before .before .if1 .taken) (sym (c .before .stays .ensures (start .pre .0) (start .pre .1) (testable f below (stored head))) ∙ c .if2 .taken) (f .formed)
+    (c .before .before .if1 .taken) (sym (c .before .stays .ensures (start .pre .0) (start .pre .1) (testable f below)) ∙ c .if2 .taken) (f .formed)
     (omega (arith, head .loop .inv .1, f .room))
 
 mul-open : tie.Need-mul-open Inv-loop μ-loop
@@ -147,17 +137,17 @@ loop-again c =
       λ g items pairs f.
           let at-head = head .loop .inv .2 g items pairs f in
           let below = end-below (f .chained) (head .loop .e) (omega arith) (at-head .most) in
-          let k = called .skips .ensures g (at-head .after) (skippable f below (stored head) (at-head .after) (at-head .shown)) in
+          let k = called .skips .ensures g (at-head .after) (skippable f below (at-head .after) (at-head .shown)) in
           ⊎-elim
           (λ w.
-          let stay = sym (w .1 .ensures g items (testable f below (stored head))) ∙ w .2 .taken in
+          let stay = sym (w .1 .ensures g items (testable f below)) ∙ w .2 .taken in
           rw (w .3, w .4)
           (finding-kept g items pairs (f .chained) (a .width) (a .x .0) at-head (omega arith) k (w .0 .taken) stay
           (finding-room g items pairs (f .chained) (a .width) (a .x .0) at-head (omega arith) k (w .0 .taken) stay (f .formed) (omega (arith, head .loop .inv .1)))))
           (λ w.
           rw (w .1, w .2)
           (⊎-elim
-          (λ v. finding-dropped g items pairs (f .chained) (a .width) (a .x .0) at-head (omega arith) k (sym (v .1 .ensures g items (testable f below (stored head))) ∙ v .2 .left))
+          (λ v. finding-dropped g items pairs (f .chained) (a .width) (a .x .0) at-head (omega arith) k (sym (v .1 .ensures g items (testable f below)) ∙ v .2 .left))
           (λ v. finding-skipped g items pairs (f .chained) (a .width) (a .x .0) at-head (omega arith) k (v .left))
           (w .0 .came)))
           (c .before .if1 .came),
@@ -179,8 +169,7 @@ find-open-spec =
     Inv-loop
     μ-loop
     cast-at
-    shared-slice-read-decoded
-    decoded-requires
+    shared-slice-read-kind
     mul-start
     shared-slice-read-start
     mul-end

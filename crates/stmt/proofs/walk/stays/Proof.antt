@@ -27,9 +27,12 @@ returns-2 c g items t =
     (stays-pathless t (sym (c .before .before .before .row-has .ensures) ∙ c .before .before .if1 .left)
     (sym (c .before .has-pair .ensures) ∙ not-true _ (c .if2 .taken)))
 
+kind-of-requires : tie.Need-kind-of-requires
+kind-of-requires c κs = search needs
+
 has-pair-requires-2 : tie.Need-has-pair-requires-2
 has-pair-requires-2 c κs =
-    let start = c .before .before .before .before .before .before .before .before in
+    let start = c .before .before .before .before .before .before .before .before .before in
     let t = start .pre .2 in
     cell (t .weak-shown) (start .args .x .0) (start .args .d .0) (t .x-below) (t .d-below)
 
@@ -39,9 +42,9 @@ may-drop-requires c κs = search needs
 returns-3 : tie.Need-returns-3
 returns-3 c g items t =
     sym
-    (stays-undropped t (sym (c .before .before .before .before .before .row-has .ensures) ∙ c .before .before .before .before .if1 .left)
-    (sym (c .before .before .before .has-pair .ensures) ∙ not-false _ (c .before .before .if2 .left))
-    (λ weight e. c .may-drop .ensures weight (c .before .has-pair2 .ensures ∙ e)))
+    (stays-undropped t (sym (c .before .before .before .before .before .before .row-has .ensures) ∙ c .before .before .before .before .before .if1 .left)
+    (sym (c .before .before .before .before .has-pair .ensures) ∙ not-false _ (c .before .before .before .if2 .left))
+    (λ weight e. c .may-drop .ensures weight (c .before .has-pair2 .ensures ∙ e) ∙ sym (c .before .before .kind-of .ensures .drops weight)))
 
 pub stays-spec : {M : Type 1} → statement M
 stays-spec =
@@ -52,6 +55,7 @@ stays-spec =
     returns
     has-pair-requires
     returns-2
+    kind-of-requires
     has-pair-requires-2
     may-drop-requires
     returns-3)

@@ -1,9 +1,9 @@
 -- `stmt::walk::visit_unplaced` meets its contract, by the laws of steps 2 to 5. Assumes nothing.
 use native.Mathlib.Omega.{arith}
-use mathlib.Core.Path.{_≡_, refl, sym, ap, _∙_}
+use mathlib.Core.Path.{_≡_, refl, sym, _∙_}
 use lib.ListN.{getD}
 use borrow.Author.Needs.{needs}
-use Rattle.project.specs.Kinds.{decoded, injectedBy}
+use Rattle.rules.specs.Items.{isInjected}
 use Rattle.stmt.specs.WalkLaws.{found-most, listed-self}
 use Rattle.stmt.specs.VisitLaws.{front-below, findable, awaited, front, settling, visit-puts, visit-injected, visit-uninjected}
 use Rattle.stmt.proofs.walk.visit_unplaced.Statement.{statement}
@@ -46,21 +46,21 @@ returns c g rest items pairs new h =
 cast-at : tie.Need-cast-at
 cast-at c = search needs
 
-shared-slice-read-decoded : tie.Need-shared-slice-read-decoded
-shared-slice-read-decoded c =
+shared-slice-read-kind-of : tie.Need-shared-slice-read-kind-of
+shared-slice-read-kind-of c =
     let start = entry (c .before .before .before .before .before .before .before .before) in
     omega (arith, front-below (start .pre .4) (start .pre .5), start .pre .5 .laid .kinds-shown .room)
 
-decoded-requires : tie.Need-decoded-requires
-decoded-requires c κs = search needs
+kind-of-requires : tie.Need-kind-of-requires
+kind-of-requires c κs = search needs
 
 is-injected-requires : tie.Need-is-injected-requires
 is-injected-requires c κs = search needs
 
 -- the test of its kind
 tested : (c : tie.After-is-injected)
-    → injectedBy (decoded (getD (entry (c .before .before .before .before .before .before .before .before .before .before) .args .kinds .now) (entry (c .before .before .before .before .before .before .before .before .before .before) .args .x .0) 0)) ≡ c .is-injected .result
-tested c = sym (ap injectedBy (c .before .decoded .ensures)) ∙ sym (c .is-injected .ensures)
+    → isInjected (getD (entry (c .before .before .before .before .before .before .before .before .before .before) .args .kinds .now) (entry (c .before .before .before .before .before .before .before .before .before .before) .args .x .0) 0) ≡ c .is-injected .result
+tested c = c .before .kind-of .ensures .injected ∙ sym (c .is-injected .ensures)
 
 place-injected-requires : tie.Need-place-injected-requires
 place-injected-requires c κs =
@@ -159,8 +159,8 @@ visit-unplaced-spec =
     same-length-4
     returns
     cast-at
-    shared-slice-read-decoded
-    decoded-requires
+    shared-slice-read-kind-of
+    kind-of-requires
     is-injected-requires
     place-injected-requires
     same-length-5
