@@ -1,6 +1,6 @@
 //! Times the original and the archive on the same projects, in one process.
 //!
-//! bench [--rounds N]
+//! bench [--rounds N] [--projects N]
 //! bench --profile KIND      only the archive, on one kind, for five seconds
 //!
 //! What is timed, for each call:
@@ -16,6 +16,10 @@
 //!   to reply and report. The buffers are made once, as a host would.
 //!
 //! The sides take turns; the median of the rounds is printed.
+//!
+//! A row of random projects has 8 or 16 of them, again and again, so that the
+//! processor comes to foresee their branches. With `--projects 400` it
+//! doesn't, and either side takes longer.
 
 #[cfg(not(all(feature = "archive", has_original)))]
 fn main() {
@@ -231,34 +235,44 @@ mod bench {
     pub fn main() {
         let words: Vec<String> = std::env::args().skip(1).collect();
         let words: Vec<&str> = words.iter().map(|word| word.as_str()).collect();
-        let number = |word: &str| word.parse::<usize>().ok().filter(|&n| n > 0);
-        match words[..] {
-            [] => tables(9),
-            ["--rounds", n] if number(n).is_some() => tables(number(n).unwrap_or(1)),
-            ["--profile", kind] => profile(kind),
-            _ => {
-                eprintln!("usage: bench [--rounds N] | bench --profile KIND");
-                std::process::exit(2);
+        if let ["--profile", kind] = words[..] {
+            return profile(kind);
+        }
+        let (mut rounds, mut number) = (9, None);
+        for option in words.chunks(2) {
+            match option {
+                ["--rounds", n] if positive(n).is_some() => rounds = positive(n).unwrap_or(1),
+                ["--projects", n] if positive(n).is_some() => number = positive(n),
+                _ => {
+                    eprintln!("usage: bench [--rounds N] [--projects N] | bench --profile KIND");
+                    std::process::exit(2);
+                }
             }
         }
+        tables(rounds, number);
     }
 
-    fn tables(rounds: usize) {
+    fn positive(word: &str) -> Option<usize> {
+        word.parse().ok().filter(|&n| n > 0)
+    }
+
+    /// `number` is how many random projects a row has, if not the usual number.
+    fn tables(rounds: usize, number: Option<usize>) {
         println!(
             "{}, median of {rounds} rounds, time of one order call",
             machine()
         );
         table("kind");
-        for (name, projects) in kinds() {
+        for (name, projects) in kinds(number) {
             line(name, &projects, 0, rounds);
         }
-        growth(rounds);
+        growth(rounds, number.unwrap_or(8));
     }
 
     /// Calls the archive again and again on the first kind whose name starts
     /// so, for a profiler.
     fn profile(kind: &str) {
-        let Some((_, projects)) = kinds().into_iter().find(|k| k.0.starts_with(kind)) else {
+        let Some((_, projects)) = kinds(None).into_iter().find(|k| k.0.starts_with(kind)) else {
             eprintln!("bench: no such kind");
             std::process::exit(2);
         };
@@ -269,7 +283,8 @@ mod bench {
         }
     }
 
-    fn kinds() -> Vec<(&'static str, Vec<Project>)> {
+    fn kinds(number: Option<usize>) -> Vec<(&'static str, Vec<Project>)> {
+        let usual = number.unwrap_or(16);
         let mut one = Project::empty(1);
         one.items = vec![(0, PLAIN)];
         let small = Shape {
@@ -305,23 +320,29 @@ mod bench {
         full.needs = vec![(0, 1, ALWAYS), (1, 0, ALWAYS)];
         vec![
             ("one item", vec![one]),
-            ("small (4 modules, 8 items, 12 needs)", projects(small, 16)),
+            (
+                "small (4 modules, 8 items, 12 needs)",
+                projects(small, usual),
+            ),
             (
                 "typical (24 modules, 100 items, 300 needs)",
-                projects(TYPICAL, 16),
+                projects(TYPICAL, usual),
             ),
             (
                 "largest (64 modules, 256 items, 2,048 needs)",
-                projects(largest, 8),
+                projects(largest, number.unwrap_or(8)),
             ),
-            ("dense circles (24 modules in one)", projects(dense, 16)),
-            ("injected-heavy (90 of 100 items)", projects(injected, 16)),
+            ("dense circles (24 modules in one)", projects(dense, usual)),
+            (
+                "injected-heavy (90 of 100 items)",
+                projects(injected, usual),
+            ),
             ("a walk that ends in 12", vec![full]),
         ]
     }
 
     /// How time grows with items, with needs and with visits.
-    fn growth(rounds: usize) {
+    fn growth(rounds: usize, number: usize) {
         table("items, with 24 modules and 3 needs for each");
         for items in [16, 32, 64, 128, 256] {
             let shape = Shape {
@@ -329,7 +350,7 @@ mod bench {
                 needs: 3 * items,
                 ..TYPICAL
             };
-            line(&items.to_string(), &projects(shape, 8), 0, rounds);
+            line(&items.to_string(), &projects(shape, number), 0, rounds);
         }
         table("needs, with 24 modules and 256 items");
         for needs in [128, 256, 512, 1_024, 2_048] {
@@ -338,7 +359,7 @@ mod bench {
                 needs,
                 ..TYPICAL
             };
-            line(&needs.to_string(), &projects(shape, 8), 0, rounds);
+            line(&needs.to_string(), &projects(shape, number), 0, rounds);
         }
         table("allowance, on one project of 252 items");
         for allowance in [1_000, 10_000, 100_000] {
