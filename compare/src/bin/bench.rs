@@ -18,8 +18,8 @@
 //! The sides take turns; the median of the rounds is printed.
 //!
 //! A row of random projects has 8 or 16 of them, again and again, so that the
-//! processor comes to foresee their branches. With `--projects 400` it
-//! doesn't, and either side takes longer.
+//! processor comes to foresee their branches. With more, as `--projects 400`,
+//! it foresees fewer, and either side takes longer.
 
 #[cfg(not(all(feature = "archive", has_original)))]
 fn main() {
