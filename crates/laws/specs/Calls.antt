@@ -14,6 +14,7 @@ use Rattle.rules.specs.Modules.{ModuleState, groupsOf, groupsInOrder, runModule
 use Rattle.rules.specs.Items.{keptRows}
 use Rattle.rules.specs.Calls.{Answer, refusal, allowed, moduleListLimit, itemListLimit, orderBytes, groupsBytes, groupsAnswer, groupsOfProject, groupsCall, orderGroups, orderAnswer, afterGroups, orderOfProject, orderCall}
 use Rattle.laws.specs.Lists.{Tested, holds, fails, tested}
+use Rattle.laws.specs.Runs.{visitsOf}
 use Rattle.laws.specs.Terms.{Given, CirclesMatch, visitLimit}
 use Rattle.laws.specs.Accepted.{Accepted}
 use Rattle.laws.specs.ModuleOrder.{Bounded, finishes, spends, fills, bounded}
@@ -90,25 +91,20 @@ module _ (bytes : List ℕ) (p : Project) (read-as : read bytes ≡ accepted p) 
   call-given g = rw order-of (project-given p space (allowed allowance) (rw order-of at g))
 
 -- The module visits that a call reports: those of its module walk, or 0 where it is refused before.
-unfoldable pub visitsOf : Stop ModuleState → ℕ
-visitsOf (finished s n) = n
-visitsOf (spent n) = n
-visitsOf (full n) = n
-
-groups-answer-visits : (stop : Stop ModuleState) → groupsAnswer stop .moduleVisits ≡ visitsOf stop
+pub groups-answer-visits : (stop : Stop ModuleState) → groupsAnswer stop .moduleVisits ≡ visitsOf stop
 unfolding groupsAnswer visitsOf refusal
 groups-answer-visits (finished s n) = refl
 groups-answer-visits (spent n) = refl
 groups-answer-visits (full n) = refl
 
 module _ (p : Project) where
-  order-answer-visits : (groups n : ℕ) (stop : Stop (List ℕ)) → orderAnswer p groups n stop .moduleVisits ≡ n
+  pub order-answer-visits : (groups n : ℕ) (stop : Stop (List ℕ)) → orderAnswer p groups n stop .moduleVisits ≡ n
   unfolding orderAnswer refusal
   order-answer-visits groups n (finished rows made) = refl
   order-answer-visits groups n (spent made) = refl
   order-answer-visits groups n (full made) = refl
 
-  after-groups-visits : (allowance : ℕ) (stop : Stop ModuleState) → afterGroups p allowance stop .moduleVisits ≡ visitsOf stop
+  pub after-groups-visits : (allowance : ℕ) (stop : Stop ModuleState) → afterGroups p allowance stop .moduleVisits ≡ visitsOf stop
   unfolding afterGroups visitsOf refusal
   after-groups-visits allowance (finished s n) = order-answer-visits (length (groupsOf s)) n _
   after-groups-visits allowance (spent n) = refl

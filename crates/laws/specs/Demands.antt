@@ -97,7 +97,7 @@ module _ (bytes : List ℕ) (p : Project) (read-as : read bytes ≡ accepted p) 
   unfolding orderEntry
   call-of e = given-read (orderCall bytes (length reply) allowance) reply report e .0
 
-  read-off : orderEntry bytes reply report allowance .number ≡ 0
+  pub read-off : orderEntry bytes reply report allowance .number ≡ 0
       → orderRead (orderEntry bytes reply report allowance) ≡ orderCall bytes (length reply) allowance .written
   unfolding orderEntry
   read-off e =

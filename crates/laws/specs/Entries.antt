@@ -42,6 +42,14 @@ module _ (a : Answer) (reply report : List ℕ) where
   unfolding number32 overwrite reportBytes flatMap bytes32
   visits-read h = four-bytes (a .moduleVisits) h
 
+  pub items-read : a .itemVisits < 4294967296 → number32 (overwrite (reportBytes a) report) 16 ≡ a .itemVisits
+  unfolding number32 overwrite reportBytes flatMap bytes32
+  items-read h = four-bytes (a .itemVisits) h
+
+  pub report-read : 20 ≤ length report → take 20 (reported a reply report .report) ≡ reportBytes a
+  unfolding overwrite reportBytes flatMap bytes32
+  report-read long = rw (reported-long (le-ltb (length report) 20 long)) (take-at (reportBytes a) (drop 20 report) 20 refl)
+
   -- What the host reads off where the answer is 0.
   pub given-read : reported a reply report .number ≡ 0 → (a .number ≡ 0) × (20 ≤ length report)
   given-read g = go (tested (ltb (length report) 20))

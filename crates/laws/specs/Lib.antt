@@ -17,6 +17,8 @@ pub mod Classes
 pub mod ModuleOrder
 pub mod OrderCalls
 pub mod Calls
+pub mod LargerAllowances
 pub mod GivenOrders
 pub mod Entries
 pub mod Demands
+pub mod Allowances

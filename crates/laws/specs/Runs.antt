@@ -62,3 +62,57 @@ module _ {State : Type 0} (w : Walk State) (limit : ℕ) where
             → Stopped Inv (made + suc left) (run w limit (suc left) made s)
         go (holds e) rest = rw (run-ended (suc left) made s e) (at-end i e (omega arith))
         go (fails e) rest = after e (tested (ltb limit (length (w .list (w .visit s))))) rest
+
+-- The visits made where a run stops.
+unfoldable pub visitsOf : {A : Type 0} → Stop A → ℕ
+visitsOf (finished s n) = n
+visitsOf (spent n) = n
+visitsOf (full n) = n
+
+-- What a stop under an allowance says of the stop under a larger one: an end and a full list are the same there, and after a spent allowance no
+-- fewer visits are made.
+pub data Extends {A : Type 0} : Stop A → Stop A → Type 0 where
+  same-end : {s : A} {n : ℕ} → Extends (finished s n) (finished s n)
+  same-full : {n : ℕ} → Extends (full n) (full n)
+  goes-on : {n : ℕ} {longer : Stop A} → n ≤ visitsOf longer → Extends (spent n) longer
+
+module _ {State : Type 0} (w : Walk State) (limit : ℕ) where
+  pub run-made : (left made : ℕ) (s : State) → made ≤ visitsOf (run w limit left made s)
+  unfolding visitsOf
+  run-made left made s = go (stopped w limit (λ n t. made ≤ n) (λ n t h e. omega arith) left made s (omega arith))
+    where
+      go : {stop : Stop State} → Stopped w limit (λ n t. made ≤ n) (made + left) stop → made ≤ visitsOf stop
+      go (at-end h e k) = h
+      go (at-allowance t h e k) = h
+      go (at-limit t h f k) = h
+
+  pub run-most : (left made : ℕ) (s : State) → visitsOf (run w limit left made s) ≤ made + left
+  unfolding visitsOf
+  run-most left made s = go (stopped w limit (λ n t. made ≤ n) (λ n t h e. omega arith) left made s (omega arith))
+    where
+      go : {stop : Stop State} → Stopped w limit (λ n t. made ≤ n) (made + left) stop → visitsOf stop ≤ made + left
+      go (at-end h e k) = k
+      go (at-allowance t h e k) = omega arith
+      go (at-limit t h f k) = k
+
+  -- One allowance and a larger one, from the same state on.
+  abbrev Both : (left more made : ℕ) → State → Type 0
+  Both left more made s = Extends (run w limit left made s) (run w limit more made s)
+
+  pub run-extends : (left more made : ℕ) (s : State) → left ≤ more → Both left more made s
+  run-extends zero more made s h = go (tested (w .ended s))
+    where
+      go : Tested (w .ended s) → Both 0 more made s
+      go (holds e) = rw (run-ended w limit 0 made s e, run-ended w limit more made s e) same-end
+      go (fails e) = rw (run-spent w limit made s e) (goes-on (run-made more made s))
+  run-extends (suc left) zero made s h = absurd (omega arith)
+  run-extends (suc left) (suc more) made s h = go (tested (w .ended s)) (run-extends left more (suc made) (w .visit s) (omega arith))
+    where
+      after : w .ended s ≡ false → Tested (ltb limit (length (w .list (w .visit s)))) → Both left more (suc made) (w .visit s)
+          → Both (suc left) (suc more) made s
+      after e (holds f) both = rw (run-full w limit left made s e f, run-full w limit more made s e f) same-full
+      after e (fails f) both = rw (run-on w limit left made s e f, run-on w limit more made s e f) both
+
+      go : Tested (w .ended s) → Both left more (suc made) (w .visit s) → Both (suc left) (suc more) made s
+      go (holds e) both = rw (run-ended w limit (suc left) made s e, run-ended w limit (suc more) made s e) same-end
+      go (fails e) both = after e (tested (ltb limit (length (w .list (w .visit s))))) both
