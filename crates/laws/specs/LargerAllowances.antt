@@ -13,7 +13,7 @@ use Rattle.rules.specs.Modules.{ModuleState, moduleWalk, moduleStart, runModule
 use Rattle.rules.specs.Items.{ItemState, itemWalk, itemStart, groupOf, numbering, orderOf, keepsRowOrder, givingModules, givenRows, sortModules, sortGroup}
 use Rattle.rules.specs.Calls.{Answer, refusal, allowed, moduleListLimit, itemListLimit, orderBytes, groupsBytes, groupsAnswer, groupsOfProject, groupsCall, continueWith, orderGroups, orderAnswer, afterGroups, orderOfProject, orderCall}
 use Rattle.laws.specs.Lists.{Tested, holds, fails, tested}
-use Rattle.laws.specs.Runs.{visitsOf, Extends, same-end, same-full, goes-on, run-made, run-most, run-extends}
+use Rattle.laws.specs.Runs.{visitsOf, Extends, same-end, same-full, goes-on, run-visits, run-extends}
 use Rattle.laws.specs.Calls.{order-short, order-long, groups-short, groups-long, order-of, groups-of, groups-answer-visits, order-answer-visits, after-groups-visits}
 
 -- Item runs: the order of a group, and of the groups in turn.
@@ -54,25 +54,17 @@ module _ (p : Project) (limit : ℕ) where
             rw (sorted left e, sorted more e)
             (order-extends (numbering p modules) (run-extends (itemWalk (groupOf p modules)) limit left more made (itemStart (groupOf p modules)) h))
 
-    sort-made : (left : ℕ) → made ≤ visitsOf (sortGroup p earlier group limit left made)
+    sort-visits : (left : ℕ)
+        → (made ≤ visitsOf (sortGroup p earlier group limit left made)) × (visitsOf (sortGroup p earlier group limit left made) ≤ made + left)
     unfolding visitsOf
-    sort-made left = go (tested (keepsRowOrder p group))
+    sort-visits left = go (tested (keepsRowOrder p group))
       where
-        go : Tested (keepsRowOrder p group) → made ≤ visitsOf (sortGroup p earlier group limit left made)
-        go (holds e) = rw (unsorted left e) (omega arith)
+        go : Tested (keepsRowOrder p group)
+            → (made ≤ visitsOf (sortGroup p earlier group limit left made)) × (visitsOf (sortGroup p earlier group limit left made) ≤ made + left)
+        go (holds e) = rw (unsorted left e) (omega arith, omega arith)
         go (fails e) =
             rw (sorted left e, order-made (numbering p modules) (walked left))
-            (run-made (itemWalk (groupOf p modules)) limit left made (itemStart (groupOf p modules)))
-
-    sort-most : (left : ℕ) → visitsOf (sortGroup p earlier group limit left made) ≤ made + left
-    unfolding visitsOf
-    sort-most left = go (tested (keepsRowOrder p group))
-      where
-        go : Tested (keepsRowOrder p group) → visitsOf (sortGroup p earlier group limit left made) ≤ made + left
-        go (holds e) = rw (unsorted left e) (omega arith)
-        go (fails e) =
-            rw (sorted left e, order-made (numbering p modules) (walked left))
-            (run-most (itemWalk (groupOf p modules)) limit left made (itemStart (groupOf p modules)))
+            (run-visits (itemWalk (groupOf p modules)) limit left made (itemStart (groupOf p modules)))
 
   continue-most : (most : ℕ) (stop : Stop (List ℕ)) (rest : List ℕ → ℕ → Stop (List ℕ)) → visitsOf stop ≤ most
       → ((rows : List ℕ) (n : ℕ) → n ≤ most → visitsOf (rest rows n) ≤ most) → visitsOf (continueWith stop rest) ≤ most
@@ -87,7 +79,7 @@ module _ (p : Project) (limit : ℕ) where
   groups-most allowance earlier [] rows made h = h
   groups-most allowance earlier (group ∷ groups) rows made h =
       continue-most allowance (sortGroup p earlier group limit (allowance - made) made) _
-      (let k = sort-most earlier group made (allowance - made) in omega (arith, k))
+      (let k = sort-visits earlier group made (allowance - made) in omega (arith, k .1))
       (λ more n j. groups-most allowance (group ∷ earlier) groups (rows ++ more) n j)
 
   continue-made : (stop : Stop (List ℕ)) (rest : List ℕ → ℕ → Stop (List ℕ)) → ((rows : List ℕ) (n : ℕ) → n ≤ visitsOf (rest rows n))
@@ -110,7 +102,7 @@ module _ (p : Project) (limit : ℕ) where
   unfolding orderGroups visitsOf
   groups-made allowance earlier [] rows made = omega arith
   groups-made allowance earlier (group ∷ groups) rows made =
-      le-trans (sort-made earlier group made (allowance - made))
+      le-trans (sort-visits earlier group made (allowance - made) .0)
       (continue-made (sortGroup p earlier group limit (allowance - made) made) _
       (λ more n. groups-made allowance (group ∷ earlier) groups (rows ++ more) n))
 
@@ -221,7 +213,7 @@ module _ (p : Project) (allowance : ℕ) where
 
   modules-within : visitsOf (runModules p moduleListLimit allowance) ≤ allowance
   unfolding runModules
-  modules-within = let h = run-most (moduleWalk p) moduleListLimit allowance 0 (moduleStart p) in omega (arith, h)
+  modules-within = let h = run-visits (moduleWalk p) moduleListLimit allowance 0 (moduleStart p) in omega (arith, h .1)
 
   groups-of-within : (space : ℕ) → Within allowance (groupsOfProject p space allowance)
   groups-of-within space = go (tested (ltb space (groupsBytes p)))

@@ -77,23 +77,15 @@ pub data Extends {A : Type 0} : Stop A → Stop A → Type 0 where
   goes-on : {n : ℕ} {longer : Stop A} → n ≤ visitsOf longer → Extends (spent n) longer
 
 module _ {State : Type 0} (w : Walk State) (limit : ℕ) where
-  pub run-made : (left made : ℕ) (s : State) → made ≤ visitsOf (run w limit left made s)
+  -- The visits made before, and at most those left beside them.
+  pub run-visits : (left made : ℕ) (s : State) → (made ≤ visitsOf (run w limit left made s)) × (visitsOf (run w limit left made s) ≤ made + left)
   unfolding visitsOf
-  run-made left made s = go (stopped w limit (λ n t. made ≤ n) (λ n t h e. omega arith) left made s (omega arith))
+  run-visits left made s = go (stopped w limit (λ n t. made ≤ n) (λ n t h e. omega arith) left made s (omega arith))
     where
-      go : {stop : Stop State} → Stopped w limit (λ n t. made ≤ n) (made + left) stop → made ≤ visitsOf stop
-      go (at-end h e k) = h
-      go (at-allowance t h e k) = h
-      go (at-limit t h f k) = h
-
-  pub run-most : (left made : ℕ) (s : State) → visitsOf (run w limit left made s) ≤ made + left
-  unfolding visitsOf
-  run-most left made s = go (stopped w limit (λ n t. made ≤ n) (λ n t h e. omega arith) left made s (omega arith))
-    where
-      go : {stop : Stop State} → Stopped w limit (λ n t. made ≤ n) (made + left) stop → visitsOf stop ≤ made + left
-      go (at-end h e k) = k
-      go (at-allowance t h e k) = omega arith
-      go (at-limit t h f k) = k
+      go : {stop : Stop State} → Stopped w limit (λ n t. made ≤ n) (made + left) stop → (made ≤ visitsOf stop) × (visitsOf stop ≤ made + left)
+      go (at-end h e k) = (h, k)
+      go (at-allowance t h e k) = (h, omega arith)
+      go (at-limit t h f k) = (h, k)
 
   -- One allowance and a larger one, from the same state on.
   abbrev Both : (left more made : ℕ) → State → Type 0
@@ -104,7 +96,7 @@ module _ {State : Type 0} (w : Walk State) (limit : ℕ) where
     where
       go : Tested (w .ended s) → Both 0 more made s
       go (holds e) = rw (run-ended w limit 0 made s e, run-ended w limit more made s e) same-end
-      go (fails e) = rw (run-spent w limit made s e) (goes-on (run-made more made s))
+      go (fails e) = rw (run-spent w limit made s e) (goes-on (run-visits more made s .0))
   run-extends (suc left) zero made s h = absurd (omega arith)
   run-extends (suc left) (suc more) made s h = go (tested (w .ended s)) (run-extends left more (suc made) (w .visit s) (omega arith))
     where
