@@ -5,7 +5,6 @@ use native.Mathlib.Omega.{arith}
 use mathlib.Core.Path.{_≡_, refl, sym, ap, _∙_}
 use mathlib.Core.Logic.{_⊎_, inl, ⊎-elim}
 use mathlib.Core.List.{List}
-use mathlib.Core.Bool.{true, false}
 use lib.Dec.{eqb, ltb}
 use lib.ListN.{length, take}
 use borrow.Author.Tests.{le-ltb}
