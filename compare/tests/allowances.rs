@@ -56,7 +56,8 @@ fn allowance(rng: &mut Rng, visits: u32) -> u32 {
 #[test]
 fn a_larger_allowance_changes_no_key() {
     let mut rng = Rng::new(101);
-    // Pairs seen, of order calls and of groups calls: by the number under the smaller allowance, and for 11 by the one under the larger.
+    // Pairs seen, of order calls and of groups calls: by the number under the
+    // smaller allowance, and for 11 by the one under the larger.
     let (mut kept, mut after_spent) = ([[0; 14]; 2], [[0; 14]; 2]);
     let mut with_zero = 0;
     for n in 0..20_000 {

@@ -5,14 +5,14 @@ use native.Mathlib.Omega.{arith}
 use mathlib.Core.Path.{_≡_, refl, sym, ap, _∙_}
 use mathlib.Core.Logic.{_⊎_, inl, ⊎-elim}
 use mathlib.Core.List.{List}
-use lib.Dec.{eqb, ltb}
+use lib.Dec.{ltb}
 use lib.ListN.{length, take}
 use borrow.Author.Tests.{le-ltb}
-use Rattle.rules.specs.Project.{Project, accepted, read, number32}
-use Rattle.rules.specs.Calls.{Answer, allowed, groupsCall, orderCall, reportBytes, reported, Entry, groupsEntry, orderEntry}
-use Rattle.laws.specs.LargerAllowances.{Larger, same, further, groups-call-larger, order-call-larger, Within, groups-call-within, order-call-within}
+use Rattle.rules.specs.Project.{Reading, refused, accepted, read, number32}
+use Rattle.rules.specs.Calls.{Answer, refusal, allowed, groupsCall, orderCall, reportBytes, reported, Entry, groupsEntry, orderEntry}
+use Rattle.laws.specs.LargerAllowances.{Larger, same, further, groups-call-larger, order-call-larger, Within, within-more, groups-call-within, order-call-within, allowed-small}
 use Rattle.laws.specs.Lists.{Tested, holds, fails, tested}
-use Rattle.laws.specs.Entries.{reported-short, reported-long, visits-read, items-read, report-read, given-read}
+use Rattle.laws.specs.Entries.{reported-short, reported-long, visits-read, items-read, report-read, given-read, order-read}
 use Rattle.laws.specs.Demands.{orderRead, visitsRead, read-off}
 
 -- An answer and the one under the larger allowance.
@@ -41,59 +41,51 @@ module _ (bytes : List ℕ) (space a b : ℕ) (no-larger : allowed a ≤ allowed
   pub order-key : ChangesNoKey (orderCall bytes space a) (orderCall bytes space b)
   order-key = changes-none (order-call-larger bytes space a b no-larger)
 
--- The entries of a host, on the same bytes, reply and report. It reads the visits off the report's fourth and fifth numbers.
+-- The entries of a host, on the same bytes, reply and report; b is the larger allowance. A host reads the visits off the report's fourth and fifth
+-- numbers. "The allowance is 32 bits", and so are these.
 abbrev pub itemVisitsRead : Entry → ℕ
 itemVisitsRead e = number32 (e .report) 16
 
-pub record EntryChangesNoKey (smaller larger : Entry) : Type 0 where
+pub record EntryChangesNoKey (b : ℕ) (smaller larger : Entry) : Type 0 where
   pub same-entry : (smaller .number ≡ 0) ⊎ (smaller .number ≡ 12) → larger ≡ smaller
   pub same-number : (smaller .number ≡ 11 → ⊥) → larger .number ≡ smaller .number
-  pub no-fewer : smaller .number ≡ 11 → (visitsRead smaller ≤ visitsRead larger) × (itemVisitsRead smaller ≤ itemVisitsRead larger)
+  pub no-fewer : b < 4294967296 → smaller .number ≡ 11
+      → (visitsRead smaller ≤ visitsRead larger) × (itemVisitsRead smaller ≤ itemVisitsRead larger)
 
-module _ (reply report : List ℕ) (most : ℕ) (small : most < 4294967296) where
-  entry-changes-none : {x y : Answer} → Larger x y → Within most x → Within most y → EntryChangesNoKey (reported x reply report) (reported y reply report)
-  entry-changes-none same v w = record { same-entry = λ o. refl; same-number = λ n. refl; no-fewer = λ e. (omega arith, omega arith) }
+module _ (b : ℕ) (reply report : List ℕ) where
+  entry-changes-none : {x y : Answer} → Larger x y → Within (allowed b) x → Within (allowed b) y
+      → EntryChangesNoKey b (reported x reply report) (reported y reply report)
+  entry-changes-none same v w = record { same-entry = λ o. refl; same-number = λ n. refl; no-fewer = λ bits e. (omega arith, omega arith) }
   entry-changes-none {x} {y} (further e m i) v w = go (tested (ltb (length report) 20))
     where
-      go : Tested (ltb (length report) 20) → EntryChangesNoKey (reported x reply report) (reported y reply report)
+      go : Tested (ltb (length report) 20) → EntryChangesNoKey b (reported x reply report) (reported y reply report)
       go (holds t) =
           rw (reported-short x reply report t, reported-short y reply report t)
-          (record { same-entry = λ o. refl; same-number = λ n. refl; no-fewer = λ f. (omega arith, omega arith) })
+          (record { same-entry = λ o. refl; same-number = λ n. refl; no-fewer = λ bits f. (omega arith, omega arith) })
       go (fails t) =
           rw (reported-long x reply report t, reported-long y reply report t)
           (record {
             same-entry = ⊎-elim (λ o. absurd (omega arith)) (λ o. absurd (omega arith));
             same-number = λ n. absurd (n e);
             no-fewer =
-                λ _. (
+                λ bits f.
+                let small = allowed-small b bits in (
                   rw (visits-read x reply report (omega (arith, v .modules-most)), visits-read y reply report (omega (arith, w .modules-most))) m,
                   rw (items-read x reply report (omega (arith, v .items-most)), items-read y reply report (omega (arith, w .items-most))) i,
                 );
           })
 
-within-more : {most more : ℕ} {a : Answer} → most ≤ more → Within most a → Within more a
-within-more h w = record { modules-most = omega (arith, w .modules-most); items-most = omega (arith, w .items-most) }
-
-allowed-small : (b : ℕ) → b < 4294967296 → allowed b < 4294967296
-unfolding allowed
-allowed-small b h = go (tested (eqb b 0))
-  where
-    go : Tested (eqb b 0) → allowed b < 4294967296
-    go (holds e) = rw (e, allowed) (omega arith)
-    go (fails e) = rw (e, allowed) h
-
--- "The allowance is 32 bits".
-module _ (bytes reply report : List ℕ) (a b : ℕ) (no-larger : allowed a ≤ allowed b) (bits : b < 4294967296) where
-  pub groups-entry-key : EntryChangesNoKey (groupsEntry bytes reply report a) (groupsEntry bytes reply report b)
+module _ (bytes reply report : List ℕ) (a b : ℕ) (no-larger : allowed a ≤ allowed b) where
+  pub groups-entry-key : EntryChangesNoKey b (groupsEntry bytes reply report a) (groupsEntry bytes reply report b)
   unfolding groupsEntry
   groups-entry-key =
-      entry-changes-none reply report (allowed b) (allowed-small b bits) (groups-call-larger bytes (length reply) a b no-larger)
+      entry-changes-none b reply report (groups-call-larger bytes (length reply) a b no-larger)
       (within-more no-larger (groups-call-within bytes (length reply) a)) (groups-call-within bytes (length reply) b)
 
-  pub order-entry-key : EntryChangesNoKey (orderEntry bytes reply report a) (orderEntry bytes reply report b)
+  pub order-entry-key : EntryChangesNoKey b (orderEntry bytes reply report a) (orderEntry bytes reply report b)
   unfolding orderEntry
   order-entry-key =
-      entry-changes-none reply report (allowed b) (allowed-small b bits) (order-call-larger bytes (length reply) a b no-larger)
+      entry-changes-none b reply report (order-call-larger bytes (length reply) a b no-larger)
       (within-more no-larger (order-call-within bytes (length reply) a)) (order-call-within bytes (length reply) b)
 
 -- "Examiners sit at machines set to different allowances and want one key." What two hosts read off, each with a reply of one length and a report of
@@ -103,9 +95,19 @@ pub record OneKey (smaller larger : Entry) : Type 0 where
   pub one-order : orderRead larger ≡ orderRead smaller
   pub one-report : take 20 (larger .report) ≡ take 20 (smaller .report)
 
-module _ (bytes : List ℕ) (p : Project) (read-as : read bytes ≡ accepted p) (a b : ℕ) (no-larger : allowed a ≤ allowed b) (reply report : List ℕ)
-    (given : orderEntry bytes reply report a .number ≡ 0) (other-reply other-report : List ℕ) (one-length : length other-reply ≡ length reply)
-    (long : 20 ≤ length other-report) where
+order-off : (bytes reply report : List ℕ) (allowance : ℕ) → orderEntry bytes reply report allowance .number ≡ 0
+    → orderRead (orderEntry bytes reply report allowance) ≡ orderCall bytes (length reply) allowance .written
+unfolding orderEntry orderCall refusal
+order-off bytes reply report allowance given = go (read bytes) refl
+  where
+    go : (r : Reading) → read bytes ≡ r → orderRead (orderEntry bytes reply report allowance) ≡ orderCall bytes (length reply) allowance .written
+    go (accepted p) e = read-off bytes p e reply report allowance given
+    go (refused n) e =
+        order-read (orderCall bytes (length reply) allowance) reply report
+        (given-read (orderCall bytes (length reply) allowance) reply report given .1) (rw (e, orderCall) (omega arith)) (rw (e, orderCall) refl)
+
+module _ (bytes : List ℕ) (a b : ℕ) (no-larger : allowed a ≤ allowed b) (reply report : List ℕ) (given : orderEntry bytes reply report a .number ≡ 0)
+    (other-reply other-report : List ℕ) (one-length : length other-reply ≡ length reply) (long : 20 ≤ length other-report) where
   abbrev answer : Answer
   answer = orderCall bytes (length reply) a
 
@@ -126,8 +128,8 @@ module _ (bytes : List ℕ) (p : Project) (read-as : read bytes ≡ accepted p) 
       record {
         one-number = entry-given ∙ sym given;
         one-order =
-            read-off bytes p read-as other-reply other-report b entry-given ∙ ap (λ (x : Answer). x .written) one-answer
-            ∙ sym (read-off bytes p read-as reply report a given);
+            order-off bytes other-reply other-report b entry-given ∙ ap (λ (x : Answer). x .written) one-answer
+            ∙ sym (order-off bytes reply report a given);
         one-report =
             report-read (orderCall bytes (length other-reply) b) other-reply other-report long ∙ ap reportBytes one-answer
             ∙ sym (report-read answer reply report (answer-given .1));

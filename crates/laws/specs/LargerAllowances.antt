@@ -1,11 +1,11 @@
 -- The calls under two allowances: from the law on runs to what a call answers. Assumes nothing.
-use Prim.Native.Nat.{ℕ, _+_, _-_, _≤_}
+use Prim.Native.Nat.{ℕ, _+_, _-_, _≤_, _<_}
 use native.Mathlib.Omega.{arith}
 use native.Mathlib.Nat.{le-trans}
 use mathlib.Core.Path.{_≡_, refl}
 use mathlib.Core.Bool.{true, false}
 use mathlib.Core.List.{List, [], _∷_, _++_}
-use lib.Dec.{ltb}
+use lib.Dec.{eqb, ltb}
 use lib.ListN.{length}
 use Rattle.rules.specs.Project.{Project, Reading, refused, accepted, read}
 use Rattle.rules.specs.Walk.{Stop, finished, spent, full, run}
@@ -187,6 +187,18 @@ module _ (bytes : List ℕ) (space a b : ℕ) (h : allowed a ≤ allowed b) wher
 pub record Within (most : ℕ) (a : Answer) : Type 0 where
   pub modules-most : a .moduleVisits ≤ most
   pub items-most : a .itemVisits ≤ most
+
+pub within-more : {most more : ℕ} {a : Answer} → most ≤ more → Within most a → Within more a
+within-more h w = record { modules-most = omega (arith, w .modules-most); items-most = omega (arith, w .items-most) }
+
+-- An allowance of 32 bits allows no more than 32 bits.
+pub allowed-small : (allowance : ℕ) → allowance < 4294967296 → allowed allowance < 4294967296
+unfolding allowed
+allowed-small allowance h = go (tested (eqb allowance 0))
+  where
+    go : Tested (eqb allowance 0) → allowed allowance < 4294967296
+    go (holds e) = rw (e, allowed) (omega arith)
+    go (fails e) = rw (e, allowed) h
 
 refused-within : (most n : ℕ) → Within most (refusal n 0 0)
 unfolding refusal
