@@ -307,7 +307,7 @@ fn check_allowances(
     original.compare(seen, kind, 0, &whole)?;
     for allowance in allowances(rng, &whole.0) {
         let found = call(seen, kind, bytes, lengths, allowance)?.expect("as above");
-        // A run that was spent with 100,000 may go on with more.
+        // A run that was spent under allowance 0 may go on with more.
         if whole.0[0] != 11 || allowance <= whole.0[3] + whole.0[4] {
             let numbers = expected(&whole.0, allowance);
             let reply = match numbers[0] {

@@ -1,5 +1,5 @@
 //! The sorting of stage script projects, side by side: the original Rust, a
-//! plain rendering of document 01, and further sides that are called with
+//! plain rendering of the papers, and further sides that are called with
 //! bytes.
 
 pub mod check;

@@ -1,7 +1,8 @@
-//! A project whose sort ends, but only after more than 100,000 visits: the
-//! meaning of allowance 0 can be seen on it. It was found by search.
+//! Projects whose sort ends, but only after many visits: the meaning of
+//! allowance 0 and what the key program passes can be seen on them. They were
+//! found by search.
 
-use crate::plain::{Project, ALWAYS, INJECTED, PLAIN};
+use crate::plain::{self, Project, ALWAYS, INJECTED, PLAIN};
 
 /// The plain and the injected items of one module.
 const PLAIN_ITEMS: usize = 27;
@@ -35,7 +36,13 @@ const NEEDS: [(usize, usize); 160] = [
 /// The modules that are alike. Each is sorted by itself, in over 14,300 visits.
 const MODULES: usize = 7;
 
-/// Seven modules alike, which import an eighth without items.
+/// A project whose sort takes more than 20,000 visits and less than 100,000.
+pub fn long_walk() -> Project {
+    plain::read(include_bytes!("../data/long-walk.bin")).expect("it is accepted")
+}
+
+/// Seven modules alike, which import an eighth without items: more than
+/// 100,000 visits.
 pub fn long_project() -> Project {
     let mut project = Project::empty(MODULES + 1);
     for module in 0..MODULES {

@@ -1,5 +1,6 @@
-//! Document 01 in plain Rust, written from the paper and not from the
-//! original. Above each piece stands the sentence that it renders.
+//! Document 01 with the changes of document 02, in plain Rust: written from
+//! the papers and not from the original. Above each piece stands the sentence
+//! that it renders.
 //!
 //! Nothing here is fast on purpose: it is to be checked by reading.
 
@@ -10,8 +11,8 @@ use std::ops::Range;
 pub const MODULE_LIST: usize = 1_024;
 /// "list full: a visit leaves over ... 16,384 item entries".
 pub const ITEM_LIST: usize = 16_384;
-/// "The allowance is 32 bits; 0 stands for 100,000."
-pub const USUAL_ALLOWANCE: u32 = 100_000;
+/// Document 02, item 13: "Allowance 0 means 20,000."
+pub const USUAL_ALLOWANCE: u32 = 20_000;
 
 /// "Kinds: 0 plain, 1 function, 2 class without superclass, 3 class with one,
 /// 4 injected, 5 empty statement."
@@ -187,7 +188,8 @@ pub struct Visits {
 }
 
 impl Visits {
-    /// "The allowance is 32 bits; 0 stands for 100,000."
+    /// "The allowance is 32 bits". Document 02, item 13: "Allowance 0 means
+    /// 20,000."
     pub fn new(allowance: u32) -> Visits {
         let allowance = match allowance {
             0 => USUAL_ALLOWANCE,
@@ -831,13 +833,18 @@ pub fn groups_entry(bytes: &[u8], reply: &mut [u8], report: &mut [u8], allowance
 /// "A program reads a project from standard input (at most 8,229 bytes of it)".
 pub const KEY_INPUT: usize = 8_229;
 
-/// "passes allowance 0, and prints `ok`, kept, groups, module visits, item
+/// Document 02, item 13: "The printed key program relied on 100,000 and now
+/// passes that number itself".
+pub const KEY_ALLOWANCE: u32 = 100_000;
+
+/// The key program "prints `ok`, kept, groups, module visits, item
 /// visits, then a second line with the order (empty if nothing is kept), all
 /// separated by one blank; or `no` and the number. Lines end in LF."
 pub fn key(input: &[u8]) -> String {
     let project = &input[..input.len().min(KEY_INPUT)];
     let mut reply = [0; 256];
-    let [answer, kept, groups, module_visits, item_visits] = order_call(project, &mut reply, 0);
+    let [answer, kept, groups, module_visits, item_visits] =
+        order_call(project, &mut reply, KEY_ALLOWANCE);
     if answer != 0 {
         return format!("no {answer}\n");
     }

@@ -3,7 +3,7 @@
 //! its input arrives.
 
 use escarpim_compare::generate::{self, Rng};
-use escarpim_compare::long::long_project;
+use escarpim_compare::long::{long_project, long_walk};
 use escarpim_compare::plain::{self, Project, ALWAYS, EMPTY, INJECTED, PLAIN};
 use std::io::{ErrorKind, Read, Write};
 use std::path::PathBuf;
@@ -159,6 +159,19 @@ fn refusals() {
     prints(&with(&|p| p.needs[3] = (0, 1, 2)), "no 9\n");
     prints(&long_project().to_bytes(), "no 11\n");
     prints(&unlisted().to_bytes(), "no 12\n");
+}
+
+/// Allowance 0 would not do: it means 20,000.
+#[test]
+fn long_sorts() {
+    let project = long_walk();
+    let mut reply = [0; 256];
+    let [number, kept, groups, modules, items] =
+        plain::order_call(&project.to_bytes(), &mut reply, 100_000);
+    assert!(number == 0 && items == 20_662);
+    let rows: Vec<String> = reply[..kept as usize].iter().map(u8::to_string).collect();
+    let expected = format!("ok {kept} {groups} {modules} {items}\n{}\n", rows.join(" "));
+    prints(&project.to_bytes(), &expected);
 }
 
 #[test]

@@ -3,6 +3,7 @@
 use escarpim_compare::check::{check_bytes, check_project, Seen};
 use escarpim_compare::generate::{self, Rng};
 use escarpim_compare::plain::{self, Project};
+use escarpim_compare::sides::{sides, Entry};
 use escarpim_compare::{long, shrink};
 
 /// Two modules, two items, and a row in each section.
@@ -167,22 +168,49 @@ fn shrinking() {
     assert!(smallest.imports.is_empty() && smallest.circles.is_empty());
 }
 
-/// "0 stands for 100,000": a sort that ends a little later.
+/// The entry's number, the visits of both walks and the reply; the archive's
+/// are those of the plain rendering.
+fn order_entry(project: &Project, allowance: u32) -> (u32, u32, Vec<u8>) {
+    let bytes = project.to_bytes();
+    let call = |entry: Entry| {
+        let (mut reply, mut report) = (vec![170; project.items.len()], [0; 20]);
+        let number = entry(&bytes, &mut reply, &mut report, allowance);
+        let visits = |at: usize| u32::from_le_bytes(report[at..at + 4].try_into().unwrap());
+        (number, visits(12) + visits(16), reply)
+    };
+    let plain = call(plain::order_entry);
+    for side in sides() {
+        assert_eq!(call(side.order), plain, "{}", side.name);
+    }
+    plain
+}
+
+/// "Allowance 0 means 20,000": a sort that takes 20,662 item visits is spent
+/// under 0, and gives its order under what the key program passes.
 #[test]
 fn allowance_zero() {
+    let project = long::long_walk();
+    let spent = (11, 20_000, vec![170; project.items.len()]);
+    assert_eq!(order_entry(&project, 0), spent);
+    assert_eq!(order_entry(&project, 20_000), spent);
+    let (number, visits, order) = order_entry(&project, 100_000);
+    let numbers = plain::order_call(&project.to_bytes(), &mut [0; 256], 100_000);
+    assert_eq!((number, numbers[4]), (0, 20_662));
+    assert_eq!(order_entry(&project, visits), (0, visits, order));
+    assert_eq!(order_entry(&project, visits - 1).0, 11);
+}
+
+/// A sort of more than 100,000 visits is spent under 0 and under 100,000, each
+/// time after as many visits as are allowed.
+#[test]
+fn longer_sort() {
     let project = long::long_project();
-    let bytes = project.to_bytes();
-    let mut reply = vec![0; project.items.len()];
-    let mut call = |allowance| plain::order_call(&bytes, &mut reply, allowance);
-    let spent = call(0);
-    assert_eq!((spent[0], spent[3] + spent[4]), (11, 100_000));
-    assert_eq!(call(100_000), spent);
-    let whole = call(u32::MAX);
-    assert_eq!(whole[..3], [0, 252, 8]);
-    let visits = whole[3] + whole[4];
-    assert!(visits > 100_000);
-    assert_eq!(call(visits), whole);
-    assert_eq!(call(visits - 1)[0], 11);
+    for (allowance, visits) in [(0, 20_000), (100_000, 100_000)] {
+        let (number, made, _) = order_entry(&project, allowance);
+        assert_eq!((number, made), (11, visits));
+    }
+    let (number, visits, _) = order_entry(&project, u32::MAX);
+    assert!(number == 0 && visits > 100_000);
 }
 
 /// "That is at most 12,479 entries": 63 modules with one injected item each,

@@ -89,7 +89,7 @@ impl fmt::Display for Refusal {
 impl std::error::Error for Refusal {}
 
 /// The load order of a project's items. At most `allowance` visits are made;
-/// 0 stands for 100,000.
+/// 0 stands for 20,000. The key program passes 100,000.
 ///
 /// ```
 /// // Two modules, 0 imports 1; an item in each.
@@ -131,7 +131,7 @@ pub fn order(project: &[u8], allowance: u32) -> Result<Order, Refusal> {
 }
 
 /// The groups of a project's modules. At most `allowance` visits are made; 0
-/// stands for 100,000.
+/// stands for 20,000.
 ///
 /// ```
 /// // Three modules without items; 0 imports 1, 1 and 2 import each other and

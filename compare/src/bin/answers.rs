@@ -2,7 +2,7 @@
 //!
 //! answers > ../crates/replay/stdin
 //!
-//! The answers are those of the plain rendering of document 01. Every project
+//! The answers are those of the plain rendering of the papers. Every project
 //! on the list is first compared on all sides, as `compare` does, so that the
 //! answers are the original's wherever it ends.
 
@@ -11,7 +11,7 @@ use std::process::exit;
 
 use escarpim_compare::check::{check_bytes, check_project, reported, written, Call, Seen};
 use escarpim_compare::generate::{self, Rng, Size};
-use escarpim_compare::long::long_project;
+use escarpim_compare::long::{long_project, long_walk};
 use escarpim_compare::plain::{self, Project, ALWAYS, INJECTED};
 use escarpim_compare::HAS_ORIGINAL;
 
@@ -19,7 +19,7 @@ const SEED: u64 = 20_261_116;
 
 const HEADER: &str = "\
 # Calls and their answers. Made by `cargo run --release --bin answers` in compare/: the answers are those of the plain rendering of
-# document 01 (compare/src/plain.rs), compared with the original Rust on every project whose sort it ends.
+# the papers (compare/src/plain.rs), compared with the original Rust on every project whose sort it ends.
 # A line: the entry's name, the length of the reply, that of the report, the allowance and the bytes of the project; behind the colons the
 # number to be returned, the bytes to be written to the reply and those to the report. All in base 16; the bytes of both buffers start as 170.
 ";
@@ -180,7 +180,7 @@ fn main() {
         calls: 0,
         seen: Seen::default(),
     };
-    list.remark("Walks that fill a list, and one that ends after more than 100,000 visits.");
+    list.remark("Walks that fill a list, and two long ones that end.");
     let mut unlisted = Project::empty(2);
     unlisted.imports = vec![(0, 1), (1, 0)];
     list.sheet(&unlisted, &BOTH, &[1_021, 1_022, 0]);
@@ -189,7 +189,8 @@ fn main() {
     circle.items = vec![(0, INJECTED); 2];
     circle.needs = vec![(0, 1, ALWAYS), (1, 0, ALWAYS)];
     list.sheet(&circle, &BOTH, &[16_386, 16_387, 0]);
-    list.sheet(&long_project(), &[Call::Order], &[0, u32::MAX]);
+    list.sheet(&long_walk(), &BOTH, &[0, 20_000, 100_000]);
+    list.sheet(&long_project(), &[Call::Order], &[0, 100_000, u32::MAX]);
     list.remark("Refusals 1 to 9.");
     refused(&mut list);
     for (name, size, number) in SHARES {

@@ -7,7 +7,7 @@ use std::time::{Duration, Instant};
 
 use escarpim_compare::check::{check_bytes, check_project, Seen};
 use escarpim_compare::generate::{self, Rng};
-use escarpim_compare::long::long_project;
+use escarpim_compare::long::{long_project, long_walk};
 use escarpim_compare::plain::{self, Project};
 use escarpim_compare::{shrink, sides::sides, HAS_ORIGINAL};
 
@@ -89,7 +89,9 @@ fn main() {
     let begin = Instant::now();
     let mut seen = Seen::default();
     let mut progress = Progress::new();
-    compare_project(&mut seen, &long_project(), options.seed);
+    for project in [long_walk(), long_project()] {
+        compare_project(&mut seen, &project, options.seed);
+    }
     for n in 0..options.projects {
         let project = generate::project(&mut Rng::nth(options.seed, n));
         compare_project(&mut seen, &project, options.seed ^ n);
@@ -182,13 +184,13 @@ fn summary(seen: &Seen, time: Duration) {
     }
     if HAS_ORIGINAL {
         println!(
-            "original: {} runs ended, {} cut at 100,000 visits, {} cut with a full list, \
+            "original: {} runs ended, {} spent under allowance 0, {} cut with a full list, \
              {} at other allowances",
             seen.original_ended, seen.original_spent, seen.original_full, seen.original_cut
         );
     }
     let mut sides: Vec<&str> = sides().iter().map(|side| side.name).collect();
-    sides.push("the plain rendering of document 01");
+    sides.push("the plain rendering of the papers");
     if HAS_ORIGINAL {
         sides.push("the original");
     }

@@ -21,7 +21,7 @@ use Rattle.sort.specs.declared.Numbers.{Numbers}
 use Rattle.sort.specs.Answers.{Answered}
 use Rattle.keys.specs.declared.Rendered.{Rendered}
 use Rattle.keys.specs.declared.Rendered.the-variants.{Written, TooShort}
-use Rattle.rules.specs.Keys.{keyOf, keyText}
+use Rattle.rules.specs.Keys.{keyOf, keyAllowance, keyText}
 use Rattle.keys.specs.Texts.{keyTextLimit, answerOf, Put, rendered, renderedBytes, Renders}
 
 -- An answer is a refusal, or an order is given.
@@ -100,11 +100,11 @@ module _ (text before : List ℕ) {m o : List ℕ} {n : ℕ} (measured : Put tex
       record { answer = rw (long, rendered) (ap Written size); bytes = rw (long, renderedBytes) (p .bytes ∙ front text before room) }
 
 -- From the text of the answer that was read to the key of the project.
-pub key-rendered : (bytes : List ℕ) {before after out left : List ℕ} {r : Numbers} {n : Rendered} → Answered (orderCall bytes itemLimit 0) before after r
+pub key-rendered : (bytes : List ℕ) {before after out left : List ℕ} {r : Numbers} {n : Rendered} → Answered (orderCall bytes itemLimit keyAllowance) before after r
     → Renders (keyOf (answerOf r (take (r .kept) after))) out left n × (length (keyOf (answerOf r (take (r .kept) after))) ≤ keyTextLimit)
     → Renders (keyText bytes) out left n × (length (keyText bytes) ≤ keyTextLimit)
 unfolding keyText
-key-rendered bytes h k = let e = answer-read bytes itemLimit 0 h in (rw e at (k .0), rw e at (k .1))
+key-rendered bytes h k = let e = answer-read bytes itemLimit keyAllowance h in (rw e at (k .0), rw e at (k .1))
 
 -- A slice that is long enough has the text in front.
 pub renders-long : (text : List ℕ) {before after : List ℕ} {r : Rendered} → Renders text before after r → length text ≤ length before

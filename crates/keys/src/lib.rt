@@ -12,8 +12,8 @@ ghost use Rattle.keys.specs.Texts.{keyTextLimit, answerOf, Renders};
 // The bytes of a reply: one for each item that there can be.
 const REPLY: usize = 256;
 
-// It stands for 100,000 visits.
-const ALLOWANCE: u32 = 0;
+// The visits that the sort of a project may take.
+const ALLOWANCE: u32 = 100000;
 
 // No key is longer.
 pub const TEXT_LIMIT: usize = 1072;

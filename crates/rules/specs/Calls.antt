@@ -24,9 +24,9 @@ unfoldable pub refusal : ℕ → ℕ → ℕ → Answer
 refusal n moduleVisits itemVisits =
     record { number = n; kept = 0; groups = 0; moduleVisits = moduleVisits; itemVisits = itemVisits; written = [] }
 
--- "The allowance is 32 bits; 0 stands for 100,000."
+-- "The allowance is 32 bits". Document 02, item 13: "Allowance 0 means 20,000."
 unfoldable pub allowed : ℕ → ℕ
-allowed allowance = cond (eqb allowance 0) 100000 allowance
+allowed allowance = cond (eqb allowance 0) 20000 allowance
 
 -- "a visit leaves over 1,024 module or 16,384 item entries"
 abbrev pub moduleListLimit : ℕ

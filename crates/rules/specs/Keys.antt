@@ -60,9 +60,13 @@ noText number = noWord ++ (behind (number ∷ []) ++ (lineEnd ∷ []))
 unfoldable pub keyOf : Answer → List ℕ
 keyOf a = elim (eqb (a .number) 0) [ true ↦ okText a | false ↦ noText (a .number) ]
 
--- The key of a project. "passes allowance 0"; the reply has a byte for every item that a project can have.
+-- Document 02, item 13: "The printed key program relied on 100,000 and now passes that number itself"
+abbrev pub keyAllowance : ℕ
+keyAllowance = 100000
+
+-- The key of a project. The reply has a byte for every item that a project can have.
 unfoldable pub keyText : List ℕ → List ℕ
-keyText bytes = keyOf (orderCall bytes itemLimit 0)
+keyText bytes = keyOf (orderCall bytes itemLimit keyAllowance)
 
 -- "A program reads a project from standard input (at most 8,229 bytes of it)"
 abbrev pub keyInputLimit : ℕ

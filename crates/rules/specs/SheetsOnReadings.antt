@@ -82,8 +82,8 @@ two-sorted-5 : order twoSortedBytes 2 5 ≡ turnedDown 11 5 0
 unfolding order
 two-sorted-5 = refl
 
--- "The allowance is 32 bits; 0 stands for 100,000."
-allowance-0 : allowed 0 ≡ 100000
+-- Document 02, item 13: "Allowance 0 means 20,000."
+allowance-0 : allowed 0 ≡ 20000
 unfolding allowed
 allowance-0 = refl
 

@@ -13,7 +13,7 @@ use Rattle.rules.specs.Walk.{Walk, Stop, finished, spent, full, run}
 use Rattle.rules.specs.Modules.{ModuleState, moduleState, moduleWalk, runModules}
 use Rattle.rules.specs.Items.{Group, ItemState, itemState, itemWalk, orderOf}
 use Rattle.rules.specs.Calls.{Answer, refusal, allowed, moduleListLimit, itemListLimit, groupsBytes, groupsAnswer, groupsOfProject, groupsCall, continueWith, orderAnswer, afterGroups, orderCall, bytes32, overwrite, reportBytes, reported, orderEntry, groupsEntry}
-use Rattle.rules.specs.Keys.{digitsWithin, decimal, behind, noText, keyOf, keyText, printed}
+use Rattle.rules.specs.Keys.{digitsWithin, decimal, behind, noText, keyOf, keyAllowance, keyText, printed}
 use Rattle.rules.specs.SheetWords.{projectBytes, always, unrun, order, turnedDown, left}
 use Rattle.rules.specs.Sheets.{unlistedBytes}
 
@@ -104,7 +104,7 @@ unlisted-order allowance = refl
 
 unlisted-0 : orderCall unlistedBytes 256 0 ≡ turnedDown 12 1022 0
 unfolding allowed afterGroups refusal
-unlisted-0 = rw (unlisted-order 0, unlisted-full 100000 (omega arith)) refl
+unlisted-0 = rw (unlisted-order 0, unlisted-full (allowed 0) (omega arith)) refl
 
 -- And the entries: "A refusal writes nothing to the reply". 1,022 visits are 254 and 3, 300 are 44 and 1.
 entry-order-12 : orderEntry unlistedBytes (replicate 256 9) (replicate 20 7) 0
@@ -118,7 +118,11 @@ unfolding groupsEntry overwrite bytes32 reportBytes reported flatMap flatten
 entry-groups-11 = rw unlisted-300 refl
 
 -- And its key: `no 12`, which it is not under an allowance of 1,000.
-unlisted-call : printed unlistedBytes ≡ keyOf (orderCall unlistedBytes 256 0)
+unlisted-passed : orderCall unlistedBytes 256 keyAllowance ≡ turnedDown 12 1022 0
+unfolding allowed afterGroups refusal
+unlisted-passed = rw (unlisted-order keyAllowance, unlisted-full (allowed keyAllowance) (omega arith)) refl
+
+unlisted-call : printed unlistedBytes ≡ keyOf (orderCall unlistedBytes 256 keyAllowance)
 unfolding unrun keyText printed
 unlisted-call = refl
 
@@ -127,7 +131,7 @@ unfolding digitsWithin decimal behind noText keyOf flatMap flatten
 key-12 = refl
 
 unlisted-key : printed unlistedBytes ≡ 110 ∷ 111 ∷ 32 ∷ 49 ∷ 50 ∷ 10 ∷ []
-unlisted-key = unlisted-call ∙ ap keyOf unlisted-0 ∙ key-12
+unlisted-key = unlisted-call ∙ ap keyOf unlisted-passed ∙ key-12
 
 -- Injected circle: "import 0→1, rows (0,4) (0,4), needs 0→1 1→0. Module visits 5; allowance 16,386: 11, 16,387: 12."
 abbrev injectedCircleBytes : List ℕ
@@ -161,6 +165,10 @@ found-16387 : runModules circleProject moduleListLimit (allowed 16387) ≡ finis
 unfolding order
 found-16387 = refl
 
+found-0 : runModules circleProject moduleListLimit (allowed 0) ≡ finished found 5
+unfolding order
+found-0 = refl
+
 afterWalk : Stop ItemState → Answer
 afterWalk stop = orderAnswer circleProject 2 5 (continueWith (orderOf (0 ∷ 1 ∷ []) stop) (λ more total. finished more total))
 
@@ -190,3 +198,9 @@ injected-circle-16387 : orderCall injectedCircleBytes 2 16387 ≡ turnedDown 12 
 unfolding allowed
 injected-circle-16387 =
     rw (after-modules 16387, found-16387, after-items (allowed 16387), fills (itemWalk circleGroup) circling circling-grows 16381 16382 0 16382 itemListLimit false (0 ∷ 1 ∷ []) (omega arith) (omega arith) (omega arith), after-full 16382) refl
+
+-- Document 02, item 13: "The Injected circle sheet still ends in 12 under 0."
+injected-circle-0 : orderCall injectedCircleBytes 2 0 ≡ turnedDown 12 5 16382
+unfolding allowed
+injected-circle-0 =
+    rw (after-modules 0, found-0, after-items (allowed 0), fills (itemWalk circleGroup) circling circling-grows 16381 (allowed 0 - 5 - 0) 0 16382 itemListLimit false (0 ∷ 1 ∷ []) (omega arith) (omega arith) (omega arith), after-full 16382) refl

@@ -4,7 +4,8 @@ use Prim.Native.Nat.{ℕ}
 use mathlib.Core.Path.{_≡_, refl}
 use mathlib.Core.List.{List, [], _∷_}
 use lib.ListN.{take, replicate}
-use Rattle.rules.specs.Keys.{digitsWithin, decimal, behind, separated, okText, noText, keyOf, keyText, printed}
+use Rattle.rules.specs.Calls.{allowed, orderCall}
+use Rattle.rules.specs.Keys.{digitsWithin, decimal, behind, separated, okText, noText, keyOf, keyAllowance, keyText, printed}
 use Rattle.rules.specs.SheetWords.{sections, projectBytes, order}
 
 -- What the program prints for an input.
@@ -35,6 +36,15 @@ eleven : prints (projectBytes 11 ((0, 5) ∷ replicate 10 (0, 0)) [] [] [])
     ∷ 49 ∷ 32 ∷ 50 ∷ 32 ∷ 51 ∷ 32 ∷ 52 ∷ 32 ∷ 53 ∷ 32 ∷ 54 ∷ 32 ∷ 55 ∷ 32 ∷ 56 ∷ 32 ∷ 57 ∷ 32 ∷ 49 ∷ 48 ∷ 10 ∷ []
 unfolding prints
 eleven = refl
+
+-- Document 02, item 13: "The printed key program relied on 100,000 and now passes that number itself, so its keys are as before."
+key-allowance : allowed keyAllowance ≡ 100000
+unfolding allowed
+key-allowance = refl
+
+key-passes : (bytes : List ℕ) → keyText bytes ≡ keyOf (orderCall bytes 256 100000)
+unfolding keyText
+key-passes bytes = refl
 
 decimal-0 : decimal 0 ≡ 48 ∷ []
 unfolding prints

@@ -102,17 +102,17 @@ allowed-some : (allowance : ℕ) → 1 ≤ allowance → allowed allowance ≡ a
 unfolding allowed
 allowed-some allowance h = go (tested (eqb allowance 0))
   where
-    go : Tested (eqb allowance 0) → cond (eqb allowance 0) 100000 allowance ≡ allowance
+    go : Tested (eqb allowance 0) → allowed allowance ≡ allowance
     go (holds e) = absurd (omega (arith, eqb-true allowance 0 e))
-    go (fails e) = rw e
+    go (fails e) = rw (e, allowed)
 
 pub allowed-most : (allowance : ℕ) → 1 ≤ allowed allowance
 unfolding allowed
 allowed-most allowance = go (tested (eqb allowance 0))
   where
-    go : Tested (eqb allowance 0) → 1 ≤ cond (eqb allowance 0) 100000 allowance
-    go (holds e) = rw e (omega arith)
-    go (fails e) = rw e (omega (arith, eqb-false allowance 0 e))
+    go : Tested (eqb allowance 0) → 1 ≤ allowed allowance
+    go (holds e) = rw (e, allowed) (omega arith)
+    go (fails e) = rw (e, allowed) (omega (arith, eqb-false allowance 0 e))
 
 -- The visits of a walk that has finished are within its allowance.
 pub visits-within : {p : Project} → Accepted p → (allowance : ℕ) {s : ModuleState} {n : ℕ} → runModules p moduleListLimit allowance ≡ finished s n

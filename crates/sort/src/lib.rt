@@ -25,6 +25,9 @@ ghost use Rattle.sort.specs.Guarantees.{GroupsGuaranteed, OrderGuarantee
 ghost use Rattle.sort.specs.Groups.{Answerable};
 ghost use Rattle.sort.specs.Orders.{Walked, Found, Givable};
 
+// The visits that an allowance of 0 stands for.
+const USUAL_ALLOWANCE: u32 = 20000;
+
 // What a call returns.
 pub struct Numbers {
     pub answer: u32,
@@ -51,7 +54,11 @@ fn refusal(answer: u32, module_visits: u32, item_visits: u32) -> Numbers
 fn allowed(allowance: u32) -> u32
     ensures { λ r. ⌜ r ≡ allowed allowance ⌝ }
 {
-    if allowance == 0 { 100000 } else { allowance }
+    if allowance == 0 {
+        USUAL_ALLOWANCE
+    } else {
+        allowance
+    }
 }
 
 // Copies bytes to the front of the reply.
