@@ -1,6 +1,5 @@
 //! Projects whose sort ends, but only after many visits: the meaning of
-//! allowance 0 and what the key program passes can be seen on them. They were
-//! found by search.
+//! allowance 0 and what the key program passes can be seen on them.
 
 use crate::plain::{self, Project, ALWAYS, INJECTED, PLAIN};
 
@@ -36,13 +35,14 @@ const NEEDS: [(usize, usize); 160] = [
 /// The modules that are alike. Each is sorted by itself, in over 14,300 visits.
 const MODULES: usize = 7;
 
-/// A project whose sort takes more than 20,000 visits and less than 100,000.
+/// A project whose sort takes 20,662 item visits: more than 20,000 visits and
+/// less than 100,000.
 pub fn long_walk() -> Project {
     plain::read(include_bytes!("../data/long-walk.bin")).expect("it is accepted")
 }
 
 /// Seven modules alike, which import an eighth without items: more than
-/// 100,000 visits.
+/// 100,000 visits. Found by search.
 pub fn long_project() -> Project {
     let mut project = Project::empty(MODULES + 1);
     for module in 0..MODULES {

@@ -7,7 +7,7 @@ use lib.ListN.{set}
 use Rattle.rules.specs.Project.{projectOf}
 use Rattle.rules.specs.Walk.{spent, full}
 use Rattle.rules.specs.Modules.{runModules}
-use Rattle.rules.specs.Calls.{allowed}
+use Rattle.rules.specs.Calls.{allowed, groupsCall, orderCall}
 use Rattle.rules.specs.SheetWords.{projectBytes, always, maybe, order, grouping, given, turnedDown, paths, importsCounted}
 use Rattle.rules.specs.Sheets.{twiceBytes, unlistedBytes}
 
@@ -86,6 +86,15 @@ two-sorted-5 = refl
 allowance-0 : allowed 0 ≡ 20000
 unfolding allowed
 allowance-0 = refl
+
+-- Of every call: 0 is answered as 20,000 is, whatever the bytes and the reply.
+order-0 : (bytes : List ℕ) (space : ℕ) → orderCall bytes space 0 ≡ orderCall bytes space 20000
+unfolding allowed orderCall
+order-0 bytes space = refl
+
+groups-0 : (bytes : List ℕ) (space : ℕ) → groupsCall bytes space 0 ≡ groupsCall bytes space 20000
+unfolding allowed groupsCall
+groups-0 bytes space = refl
 
 allowance-1 : allowed 1 ≡ 1
 unfolding allowed

@@ -102,15 +102,15 @@ unlisted-order : (allowance : ℕ) → orderCall unlistedBytes 256 allowance ≡
 unfolding unrun
 unlisted-order allowance = refl
 
-unlisted-0 : orderCall unlistedBytes 256 0 ≡ turnedDown 12 1022 0
-unfolding allowed afterGroups refusal
-unlisted-0 = rw (unlisted-order 0, unlisted-full (allowed 0) (omega arith)) refl
+unlisted-12 : (allowance : ℕ) → 1022 ≤ allowed allowance → orderCall unlistedBytes 256 allowance ≡ turnedDown 12 1022 0
+unfolding afterGroups refusal
+unlisted-12 allowance enough = rw (unlisted-order allowance, unlisted-full (allowed allowance) enough) refl
 
 -- And the entries: "A refusal writes nothing to the reply". 1,022 visits are 254 and 3, 300 are 44 and 1.
 entry-order-12 : orderEntry unlistedBytes (replicate 256 9) (replicate 20 7) 0
     ≡ left 12 (replicate 256 9) (12 ∷ 0 ∷ 0 ∷ 0 ∷ 0 ∷ 0 ∷ 0 ∷ 0 ∷ 0 ∷ 0 ∷ 0 ∷ 0 ∷ 254 ∷ 3 ∷ 0 ∷ 0 ∷ 0 ∷ 0 ∷ 0 ∷ 0 ∷ [])
-unfolding orderEntry overwrite bytes32 reportBytes reported flatMap flatten
-entry-order-12 = rw unlisted-0 refl
+unfolding allowed orderEntry overwrite bytes32 reportBytes reported flatMap flatten
+entry-order-12 = rw (unlisted-12 0 (omega arith)) refl
 
 entry-groups-11 : groupsEntry unlistedBytes (replicate 6 9) (replicate 20 7) 300
     ≡ left 11 (replicate 6 9) (11 ∷ 0 ∷ 0 ∷ 0 ∷ 0 ∷ 0 ∷ 0 ∷ 0 ∷ 0 ∷ 0 ∷ 0 ∷ 0 ∷ 44 ∷ 1 ∷ 0 ∷ 0 ∷ 0 ∷ 0 ∷ 0 ∷ 0 ∷ [])
@@ -118,10 +118,6 @@ unfolding groupsEntry overwrite bytes32 reportBytes reported flatMap flatten
 entry-groups-11 = rw unlisted-300 refl
 
 -- And its key: `no 12`, which it is not under an allowance of 1,000.
-unlisted-passed : orderCall unlistedBytes 256 keyAllowance ≡ turnedDown 12 1022 0
-unfolding allowed afterGroups refusal
-unlisted-passed = rw (unlisted-order keyAllowance, unlisted-full (allowed keyAllowance) (omega arith)) refl
-
 unlisted-call : printed unlistedBytes ≡ keyOf (orderCall unlistedBytes 256 keyAllowance)
 unfolding unrun keyText printed
 unlisted-call = refl
@@ -131,7 +127,8 @@ unfolding digitsWithin decimal behind noText keyOf flatMap flatten
 key-12 = refl
 
 unlisted-key : printed unlistedBytes ≡ 110 ∷ 111 ∷ 32 ∷ 49 ∷ 50 ∷ 10 ∷ []
-unlisted-key = unlisted-call ∙ ap keyOf unlisted-passed ∙ key-12
+unfolding allowed
+unlisted-key = unlisted-call ∙ ap keyOf (unlisted-12 keyAllowance (omega arith)) ∙ key-12
 
 -- Injected circle: "import 0→1, rows (0,4) (0,4), needs 0→1 1→0. Module visits 5; allowance 16,386: 11, 16,387: 12."
 abbrev injectedCircleBytes : List ℕ
@@ -194,13 +191,16 @@ unfolding allowed
 injected-circle-16386 =
     rw (after-modules 16386, found-16386, after-items (allowed 16386), stays (itemWalk circleGroup) circling circling-grows 16381 0 16381 itemListLimit false (0 ∷ 1 ∷ []) (omega arith) (omega arith), after-spent 16381) refl
 
+injected-circle-12 : (allowance : ℕ) → runModules circleProject moduleListLimit (allowed allowance) ≡ finished found 5 → 16387 ≤ allowed allowance
+    → orderCall injectedCircleBytes 2 allowance ≡ turnedDown 12 5 16382
+injected-circle-12 allowance grouped enough =
+    rw (after-modules allowance, grouped, after-items (allowed allowance), fills (itemWalk circleGroup) circling circling-grows 16381 (allowed allowance - 5 - 0) 0 16382 itemListLimit false (0 ∷ 1 ∷ []) (omega arith) (omega arith) (omega arith), after-full 16382) refl
+
 injected-circle-16387 : orderCall injectedCircleBytes 2 16387 ≡ turnedDown 12 5 16382
 unfolding allowed
-injected-circle-16387 =
-    rw (after-modules 16387, found-16387, after-items (allowed 16387), fills (itemWalk circleGroup) circling circling-grows 16381 16382 0 16382 itemListLimit false (0 ∷ 1 ∷ []) (omega arith) (omega arith) (omega arith), after-full 16382) refl
+injected-circle-16387 = injected-circle-12 16387 found-16387 (omega arith)
 
 -- Document 02, item 13: "The Injected circle sheet still ends in 12 under 0."
 injected-circle-0 : orderCall injectedCircleBytes 2 0 ≡ turnedDown 12 5 16382
 unfolding allowed
-injected-circle-0 =
-    rw (after-modules 0, found-0, after-items (allowed 0), fills (itemWalk circleGroup) circling circling-grows 16381 (allowed 0 - 5 - 0) 0 16382 itemListLimit false (0 ∷ 1 ∷ []) (omega arith) (omega arith) (omega arith), after-full 16382) refl
+injected-circle-0 = injected-circle-12 0 found-0 (omega arith)
