@@ -1,4 +1,6 @@
 // Groups of modules: cycles_for and toposort_real_module_ids.
+#![tactic(auto)]
+
 mod circles;
 mod imports;
 pub mod walk;

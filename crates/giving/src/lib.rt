@@ -1,4 +1,6 @@
 // Which modules of a group give items, as sets of bits, and their kept rows in row order.
+#![tactic(auto)]
+
 pub mod kept;
 
 ghost use Rattle.std.specs.Prelude.{ℕ, ◌≤◌, ◌<◌, ◌≡◌, not, ◌&&◌, ◌||◌, length};

@@ -1,5 +1,7 @@
 // The graph of one group's needs (StmtDepGraph): weights, what each item reaches, the record of paths, and neighbours in the order of first rows. The
 // items are the numbers below n. A matrix has a row of `words` words for each of them. `remove_node` takes out nothing, so there is none here.
+#![tactic(auto)]
+
 ghost use Rattle.std.specs.Prelude.{◌+◌, ◌*◌, eqb};
 ghost use Rattle.graph.specs.Rows.{Place, Stored};
 ghost use Rattle.graph.specs.Graph.{matrices, Space, Cleared, EdgeRoom, EdgeAdded};

@@ -1,4 +1,6 @@
 // The sort of one group's items (sort_stmts).
+#![tactic(auto)]
+
 ghost use Rattle.std.specs.Prelude.{◌-◌, ◌≤◌, length};
 ghost use Rattle.rules.specs.Project.{Project};
 ghost use Rattle.rules.specs.Items.{sort_modules};

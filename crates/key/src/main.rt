@@ -1,5 +1,7 @@
 // The key of a project on standard input, of which at most 8,229 bytes are read: `ok`, the numbers of kept items, groups, module visits and item
 // visits, and a second line with the load order; or `no` and the number by which it is turned down.
+#![tactic(auto)]
+
 ghost use Rattle.std.specs.Prelude.{◌≤◌, ◌≡◌, length};
 ghost use Rattle.rules.specs.Keys.{key_input_limit};
 ghost use Rattle.keys.specs.Texts.{key_text_limit};

@@ -1,4 +1,6 @@
 // The key of a project: the text that crates/key prints.
+#![tactic(auto)]
+
 mod text;
 
 ghost use Rattle.std.specs.Prelude.{◌≤◌, length};

@@ -1,4 +1,6 @@
 // A group's items numbered, and its needs laid out for the walk.
+#![tactic(auto)]
+
 mod needs;
 pub mod numbers;
 

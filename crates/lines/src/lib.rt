@@ -1,6 +1,8 @@
 // Calls of the entries that are written as lines of text. A line is the word `groups` or `order`, the length of the reply, that of the report, the
 // allowance and the project's bytes, all in base 16. Reply and report are parts of larger arrays, whose bytes all start as 170. Of these functions only
 // bounds are proved; that they read a line so is seen in what the programs print.
+#![tactic(auto)]
+
 pub mod text;
 
 ghost use Rattle.std.specs.Prelude.{◌+◌, ◌≤◌, ◌<◌, length};

@@ -1,3 +1,5 @@
 // Lists on arrays and sets as bits.
+#![tactic(auto)]
+
 pub mod bits;
 pub mod pairs;

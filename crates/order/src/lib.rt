@@ -1,4 +1,6 @@
 // The groups of an order call, sorted in turn (toposort_real_modules).
+#![tactic(auto)]
+
 ghost use Rattle.std.specs.Prelude.{ℕ, ◌+◌, ◌*◌, ◌≤◌, ◌<◌, List, [], length, ◌≡◌};
 ghost use Rattle.rules.specs.Project.{Project, module_limit, item_limit, need_limit};
 ghost use Rattle.rules.specs.Calls.{item_list_limit, order_groups};

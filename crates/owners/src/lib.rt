@@ -1,5 +1,7 @@
 // The group that the items of each module belong to, and the needs of a project chained by the group that both their items belong to, so that a group
 // finds its needs without a scan of all.
+#![tactic(auto)]
+
 ghost use Rattle.std.specs.Prelude.{ℕ, ◌<◌, ◌≡◌, List, length};
 ghost use Rattle.rules.specs.Project.{Project};
 ghost use Rattle.laws.specs.Counting.{Below};

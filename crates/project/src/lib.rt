@@ -1,4 +1,6 @@
 // Reading a project's bytes: numbers 1 to 9 of the paper's table, and where the sections stand.
+#![tactic(auto)]
+
 mod header;
 pub mod kinds;
 mod reader;

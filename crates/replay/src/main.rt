@@ -2,6 +2,8 @@
 // the line says. A line is a call as crates/lines has it, then, each behind a colon, the number, the bytes that the reply gets and those that
 // the report gets, in base 16; all other bytes of both, and those around them, have to stay 170. A line that starts with '#' is passed over. Prints
 // each line that differs, and how many calls were made and how many differ. No contract says what is compared or printed.
+#![tactic(auto)]
+
 ghost use Rattle.std.specs.Prelude.{◌+◌, ◌≤◌, ◌<◌, length};
 
 use libc::{STDIN_FILENO, STDOUT_FILENO};

@@ -8,8 +8,3 @@ pub mod Items
 pub mod Calls
 pub mod Keys
 pub mod SheetWords
-pub mod Sheets
-pub mod SheetsOnReadings
-pub mod SheetsOnRefusals
-pub mod SheetsOnTheLists
-pub mod SheetsPrinted

@@ -2,6 +2,8 @@
 // copied. A call is a line of crates/lines: printed are the number, the reply and the report, these two with the bytes that stand before and
 // behind them. Any other line is copied behind a question mark, and no call is made. No contract says what is printed: the file stdout has it, and a
 // test of compare/ holds that file to the plain rendering.
+#![tactic(auto)]
+
 ghost use Rattle.std.specs.Prelude.{◌≤◌, length};
 
 use libc::{STDIN_FILENO, STDOUT_FILENO};

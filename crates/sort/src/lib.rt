@@ -1,4 +1,6 @@
 // The groups call and the order call.
+#![tactic(auto)]
+
 pub mod entry;
 pub mod groups_entry;
 mod report;

@@ -1,4 +1,6 @@
 // The split of a group's kept items (sort_stmts): uninjected ones by module, then injected ones, numbered from 0.
+#![tactic(auto)]
+
 pub mod chains;
 
 ghost use Rattle.std.specs.Prelude.{ℕ, ◌+◌, ◌-◌, ◌≤◌, ◌≡◌, length, replicate, true, false};

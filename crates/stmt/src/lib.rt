@@ -1,2 +1,4 @@
 // The item walk of a group (iter).
+#![tactic(auto)]
+
 pub mod walk;

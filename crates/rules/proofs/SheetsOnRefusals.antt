@@ -4,7 +4,7 @@ use Rattle.std.specs.Prelude.{ℕ, ◌≡◌, refl, List, [], ◌∷◌, ◌++�
 use Rattle.rules.specs.Project.{number32}
 use Rattle.rules.specs.Calls.{bytes32}
 use Rattle.rules.specs.SheetWords.{sections, project_bytes, always, order, grouping, enter_order, enter_groups, given, turned_down, left}
-use Rattle.rules.specs.Sheets.{early_bytes, twice_bytes}
+use Rattle.rules.proofs.Sheets.{early_bytes, twice_bytes}
 
 -- A project that is damaged below: a plain item in module 0 and a dropped one in module 1, import 0→1, circle [0,1], need 0→1, 48 bytes.
 -- Byte 1: M, 2: entry. Bytes 4, 12, 20, 28: offsets 36, 40, 42, 45, each with its length 4 bytes behind it: 4, 2, 3, 3. Bytes 36 to 39: the items;

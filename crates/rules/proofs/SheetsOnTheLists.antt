@@ -10,7 +10,7 @@ use Rattle.rules.specs.Items.{Group, ItemState, item_state, item_walk, order_of}
 use Rattle.rules.specs.Calls.{Answer, refusal, allowed, module_list_limit, item_list_limit, groups_bytes, groups_answer, groups_of_project, groups_call, continue_with, order_answer, after_groups, order_call, bytes32, overwrite, report_bytes, reported, order_entry, groups_entry}
 use Rattle.rules.specs.Keys.{digits_within, decimal, behind, no_text, key_of, key_allowance, key_text, printed}
 use Rattle.rules.specs.SheetWords.{project_bytes, always, unrun, order, turned_down, left}
-use Rattle.rules.specs.Sheets.{unlisted_bytes}
+use Rattle.rules.proofs.Sheets.{unlisted_bytes}
 
 -- The entry in front, 0 or 1.
 front : Bool → ℕ

@@ -6,7 +6,7 @@ use Rattle.rules.specs.Walk.{spent, full}
 use Rattle.rules.specs.Modules.{run_modules}
 use Rattle.rules.specs.Calls.{allowed, groups_call, order_call}
 use Rattle.rules.specs.SheetWords.{project_bytes, always, maybe, order, grouping, given, turned_down, paths, imports_counted}
-use Rattle.rules.specs.Sheets.{twice_bytes, unlisted_bytes}
+use Rattle.rules.proofs.Sheets.{twice_bytes, unlisted_bytes}
 
 -- 'Project bytes'.
 -- "Byte 2: entry module": "The list starts as the entry, then 0 to M−1." Two modules, entry 1.

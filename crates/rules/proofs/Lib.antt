@@ -1,0 +1,5 @@
+pub mod Sheets
+pub mod SheetsOnReadings
+pub mod SheetsOnRefusals
+pub mod SheetsOnTheLists
+pub mod SheetsPrinted
