@@ -52,7 +52,7 @@ module _ {A B : Type 0} (f : A → List B) where
   flat_map-∈ (x ∷ l) m =
       ⊎_elim (λ h. (x, ∈-self, h)) (λ h. let r = flat_map-∈ l h in (r.0, Memᴰ.tail r.1, r.2)) (∈-append (f x) m)
 
-  pub ∈-flat_map : {l : List A} {x : A} {y : B} → x ∈ l → y ∈ f x → y ∈ flat_map f l
+  pub ∈-flat_map : {x : A} {l : List A} {y : B} → x ∈ l → y ∈ f x → y ∈ flat_map f l
   unfolding flat_map
   ∈-flat_map {y = y} (Memᴰ.head {xs = l} e) m = ∈-left (flat_map f l) (subst (λ (x : A). y ∈ f x) e m)
   ∈-flat_map (Memᴰ.tail {x = x} h) m = ∈-right (f x) (∈-flat_map h m)

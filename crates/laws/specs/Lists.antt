@@ -103,7 +103,7 @@ module _ {A : Type 0} where
       (λ h. ⊎_elim (λ e. Memᴰ.head e) (λ n. absurd (Memᴰ.not-nil n)) (Memᴰ.cases_cons h))
       (∈-append (reverse l) (subst (λ (k : List A). x ∈ k) (reverse-cons y l) m))
 
-  pub ∈-reverse : {l : List A} {x : A} → x ∈ l → x ∈ reverse l
+  pub ∈-reverse : {x : A} {l : List A} → x ∈ l → x ∈ reverse l
   ∈-reverse {x = x} (Memᴰ.head {x = y} {xs = l} e) = subst⁻¹ (λ (k : List A). x ∈ k) (reverse-cons y l) (∈-right (reverse l) (Memᴰ.head e))
   ∈-reverse {x = x} (Memᴰ.tail {x = y} {xs = l} m) = subst⁻¹ (λ (k : List A). x ∈ k) (reverse-cons y l) (∈-left (y ∷ []) (∈-reverse m))
 
@@ -126,7 +126,7 @@ module _ {A : Type 0} where
       (λ h. let r = keep-∈ test l h in (Memᴰ.tail r.0, r.1))
       (cons_if-∈ (test y) m)
 
-  pub ∈-keep : (test : A → Bool) {l : List A} {x : A} → x ∈ l → test x ≡ true → x ∈ keep test l
+  pub ∈-keep : (test : A → Bool) {x : A} {l : List A} → x ∈ l → test x ≡ true → x ∈ keep test l
   unfolding keep cons_if
   ∈-keep test {x = x} (Memᴰ.head {x = y} {xs = l} e) t = rw (sym (ap test e) ∙ t) (Memᴰ.head e)
   ∈-keep test {x = x} (Memᴰ.tail {x = y} {xs = l} m) t = ∈-cons_if (test y) y (∈-keep test m t)
@@ -138,7 +138,7 @@ module _ {A : Type 0} where
   any-true test (y ∷ l) e =
       ⊎_elim (λ h. (y, ∈-self, h)) (λ h. let r = any-true test l h in (r.0, Memᴰ.tail r.1, r.2)) (either {a = test y} e)
 
-  pub true-any : (test : A → Bool) {l : List A} {x : A} → x ∈ l → test x ≡ true → any test l ≡ true
+  pub true-any : (test : A → Bool) {x : A} {l : List A} → x ∈ l → test x ≡ true → any test l ≡ true
   unfolding any
   true-any test (Memᴰ.head {x = y} e) t = rw (sym (ap test e) ∙ t)
   true-any test (Memᴰ.tail {x = y} m) t = or_right (test y) (true-any test m t)
@@ -306,7 +306,7 @@ module _ {A : Type 0} where
   total-most h (x ∷ l) = omega (arith, h x, total-most h l)
 
   module _ (f : A → ℕ) where
-    pub ∈-total : {l : List A} {x : A} → x ∈ l → f x ≤ total f l
+    pub ∈-total : {x : A} {l : List A} → x ∈ l → f x ≤ total f l
     unfolding total
     ∈-total (Memᴰ.head e) = omega (arith, ap f e)
     ∈-total (Memᴰ.tail m) = omega (arith, ∈-total m)
@@ -316,7 +316,7 @@ module _ {A : Type 0} where
     total-suc [] = refl
     total-suc (x ∷ l) = omega (arith, total-suc l)
 
-    total-without : {l : List A} {x : A} (m : x ∈ l) → total f l ≡ f x + total f (without m)
+    total-without : {x : A} {l : List A} (m : x ∈ l) → total f l ≡ f x + total f (without m)
     unfolding total without
     total-without (Memᴰ.head e) = omega (arith, ap f e)
     total-without (Memᴰ.tail m) = omega (arith, total-without m)

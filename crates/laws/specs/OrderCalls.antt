@@ -164,7 +164,7 @@ once-right : {A : Type 0} (l : List A) {k : List A} → Once (l ++ k) → Once k
 once-right [] o = o
 once-right (x ∷ l) (next n o) = once-right l o
 
-once-apart : {A : Type 0} {l k : List A} {x : A} → x ∈ l → x ∈ k → Once (l ++ k) → ⊥
+once-apart : {A : Type 0} {x : A} {l k : List A} → x ∈ l → x ∈ k → Once (l ++ k) → ⊥
 once-apart (Memᴰ.head {xs = l} e) m (next n o) = n (Memᴰ.cast (sym e) (∈-right l m))
 once-apart (Memᴰ.tail h) m (next n o) = once-apart h m o
 

@@ -146,6 +146,7 @@ module _ {A : Type 0} where
 
   -- Where each entry stands once, no two stand before each other.
   pub before-once : {a b : A} {l : List A} → Once l → Before a b l → Before b a l → ⊥
+  before-once none x5 _ = elim x5 [ ]
   before-once (next n o) (here e m) (here f k) = n (Memᴰ.cast (sym e) k)
   before-once (next n o) (here e m) (later k) = n (Memᴰ.cast (sym e) (before-second k))
   before-once (next n o) (later h) (here f k) = n (Memᴰ.cast (sym f) (before-second h))
@@ -153,5 +154,6 @@ module _ {A : Type 0} where
 
 module _ {A B : Type 0} where
   pub before-map : (f : A → B) (l : List A) {c d : B} → Before c d (map f l) → (a : A) × (b : A) × Before a b l × (f a ≡ c) × (f b ≡ d)
+  before-map f [] x' = elim x' [ ]
   before-map f (x ∷ l) (here e m) = let r = Memᴰ.of_map f l m in (x, r.0, here refl r.1, sym e, r.2)
   before-map f (x ∷ l) (later h) = let r = before-map f l h in (r.0, r.1, later r.2, r.3, r.4)
