@@ -11,7 +11,7 @@ use project::sections::list_at;
 use project::{Layout, ModuleId};
 
 // The modules gathered in the first bytes of an array: as a set, and how many.
-#[derive(Drop)]
+#[derive(Clone, Copy)]
 pub struct Gathered {
     pub have: u64,
     pub count: usize,
@@ -29,7 +29,7 @@ impl Gathered {
 }
 
 // What following has gathered, and the set of the modules noted as followed.
-#[derive(Drop)]
+#[derive(Clone, Copy)]
 struct Following {
     gathered: Gathered,
     noted: u64,

@@ -14,7 +14,7 @@ use lists::bits;
 use project::{Layout, ModuleId};
 
 // The numbers of the walk's state: the end of the list, the modules done and marked, and the groups made with the bytes that they take.
-#[derive(Drop)]
+#[derive(Clone, Copy)]
 pub struct ModuleWalk {
     pub end: usize,
     pub done: u64,
@@ -24,7 +24,7 @@ pub struct ModuleWalk {
 }
 
 // What a visit came to.
-#[derive(Drop)]
+#[derive(Clone, Copy)]
 pub enum Outcome {
     WentOn(ModuleWalk),
     Placed(ModuleWalk),
@@ -32,7 +32,7 @@ pub enum Outcome {
 }
 
 // How a run stopped, with the visits made.
-#[derive(Drop)]
+#[derive(Clone, Copy)]
 pub enum Ending {
     Finished(ModuleWalk, u32),
     Spent(u32),

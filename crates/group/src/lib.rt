@@ -13,7 +13,7 @@ mod written;
 use layout::numbers;
 
 // How a sort stopped, with the end of the rows written and the visits made; or that the list may not fit its array.
-#[derive(Drop)]
+#[derive(Clone, Copy)]
 pub enum Ending {
     Finished(usize, u32),
     Spent(u32),

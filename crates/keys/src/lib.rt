@@ -21,7 +21,7 @@ const ALLOWANCE: u32 = 100000;
 pub const TEXT_LIMIT: usize = 1072;
 
 // How a key was rendered into a slice: its length, and whether the slice is long enough for it.
-#[derive(Drop)]
+#[derive(Clone, Copy)]
 pub enum Rendered {
     Written(usize),
     TooShort(usize),

@@ -63,7 +63,7 @@ fn enter(letter: u8, project: &[u8], reply: &mut [u8], report: &mut [u8], allowa
 }
 
 // The number that an entry has returned, and where the bytes behind reply and report end.
-#[derive(Drop)]
+#[derive(Clone, Copy)]
 pub struct Returned {
     pub number: u32,
     pub replied: usize,
@@ -100,7 +100,7 @@ fn run_call(
 }
 
 // The numbers that a line gives, and where the project's bytes start.
-#[derive(Drop)]
+#[derive(Clone, Copy)]
 struct Call {
     space: u64,
     room: u64,

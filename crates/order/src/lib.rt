@@ -18,7 +18,7 @@ use stmt::walk::ItemWalk;
 
 // How far the turns have come: where the next group's bytes begin, how many groups are left, the modules that earlier groups list, the rows written
 // and the visits made.
-#[derive(Drop)]
+#[derive(Clone, Copy)]
 pub struct Turn {
     pub place: usize,
     pub left: usize,
@@ -33,7 +33,7 @@ impl Turn {
 }
 
 // The sizes of the arrays for a project of usual size.
-#[derive(Drop)]
+#[derive(Clone, Copy)]
 pub struct Small;
 
 impl Small {
@@ -55,7 +55,7 @@ impl Small {
 }
 
 // The sizes of the arrays for any project.
-#[derive(Drop)]
+#[derive(Clone, Copy)]
 pub struct Large;
 
 impl Large {
@@ -64,7 +64,7 @@ impl Large {
 }
 
 // How the sort of all groups stopped, with the end of the rows written and the visits made.
-#[derive(Drop)]
+#[derive(Clone, Copy)]
 pub enum Ending {
     Finished(usize, u32),
     Spent(u32),
@@ -72,7 +72,7 @@ pub enum Ending {
 }
 
 // What the turns come to: an ending, or the turn of a group whose list may not fit its array.
-#[derive(Drop)]
+#[derive(Clone, Copy)]
 pub enum Turns {
     Ended(Ending),
     Crowded(Turn),

@@ -2,7 +2,7 @@
 ghost use Rattle.project.specs.Kinds.{Says};
 
 // What a kind byte says of its item.
-#[derive(Drop)]
+#[derive(Clone, Copy)]
 pub enum Kind {
     // Kept; may drop nothing.
     Plain,

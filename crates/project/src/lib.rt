@@ -13,20 +13,20 @@ ghost use Rattle.project.specs.Answers.{answer_of};
 ghost use Rattle.project.specs.Passed.{Measured, PassesHeader};
 
 // The number of a module. Modules and items are counted separately.
-#[derive(Drop)]
+#[derive(Clone, Copy)]
 pub struct ModuleId(pub u8);
 
 // The number of an item: the position of its row.
-#[derive(Drop)]
+#[derive(Clone, Copy)]
 pub struct ItemId(pub u16);
 
 // The number that an item has within its group, as a node of the group's graph.
-#[derive(Drop)]
+#[derive(Clone, Copy)]
 pub struct NodeId(pub u16);
 
 // What the header of a project says. The items start at byte 36, each other section starts where the one before it ends, and the needs end
 // with the input.
-#[derive(Drop)]
+#[derive(Clone, Copy)]
 pub struct Layout {
     pub modules: u8,
     pub entry: ModuleId,
@@ -65,7 +65,7 @@ impl Layout {
 }
 
 // What reading gives: the number of the first test of the table that turns the bytes down, or the layout.
-#[derive(Drop)]
+#[derive(Clone, Copy)]
 pub enum Reading {
     Refused(u32),
     Accepted(Layout),

@@ -7,7 +7,7 @@ use super::sections::{ImportRow, ItemRow, NeedRow};
 use super::{rows, sections};
 
 // What the rows of a section are held to: the number of modules, or of items.
-#[derive(Drop)]
+#[derive(Clone, Copy)]
 pub enum Check {
     Items(u8),
     Imports(u8),
@@ -84,7 +84,7 @@ fn next_bytes_at(bytes: &[u8], at: usize, n: usize) -> &[u8]
 }
 
 // The bytes of a section, and a position in them.
-#[derive(Drop)]
+#[derive(Clone, Copy)]
 pub struct Reader<'a> {
     bytes: &'a [u8],
     at: usize,

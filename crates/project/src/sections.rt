@@ -6,7 +6,7 @@ ghost use Rattle.project.specs.Decoded.{item_row_at, import_row_at, need_row_at,
 use super::{ItemId, ModuleId, reader};
 
 // A row of the items.
-#[derive(Drop)]
+#[derive(Clone, Copy)]
 pub struct ItemRow {
     pub in_module: ModuleId,
     pub kind: u8,
@@ -18,7 +18,7 @@ impl ItemRow {
 }
 
 // A row of the imports.
-#[derive(Drop)]
+#[derive(Clone, Copy)]
 pub struct ImportRow {
     pub importer: ModuleId,
     pub imported: ModuleId,
@@ -30,7 +30,7 @@ impl ImportRow {
 }
 
 // A row of the needs.
-#[derive(Drop)]
+#[derive(Clone, Copy)]
 pub struct NeedRow {
     pub dependant: ItemId,
     pub dependency: ItemId,

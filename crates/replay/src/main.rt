@@ -18,7 +18,7 @@ fn expect_bytes(words: &[u8], expected: &mut [u8])
 }
 
 // The number that a line gives, and where the bytes of the reply stand and where those of the report start.
-#[derive(Drop)]
+#[derive(Clone, Copy)]
 struct Parts {
     number: u64,
     start: usize,
@@ -79,7 +79,7 @@ fn replay_call(
 }
 
 // What came of a line.
-#[derive(Drop)]
+#[derive(Clone, Copy)]
 enum Outcome {
     Remark,
     Same,
@@ -124,7 +124,7 @@ fn replay_line(
 }
 
 // How many calls there were, and how many of them differ.
-#[derive(Drop)]
+#[derive(Clone, Copy)]
 struct Count {
     calls: usize,
     differ: usize,

@@ -27,7 +27,7 @@ use project::{Layout, Reading};
 const USUAL_ALLOWANCE: u32 = 20000;
 
 // What a call returns.
-#[derive(Drop)]
+#[derive(Clone, Copy)]
 pub struct Numbers {
     pub answer: u32,
     pub kept: u32,

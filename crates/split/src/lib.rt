@@ -137,7 +137,7 @@ fn number_injected(
 }
 
 // How many items of a group are uninjected, and how many there are.
-#[derive(Drop)]
+#[derive(Clone, Copy)]
 pub struct Split {
     pub uninjected: usize,
     pub count: usize,

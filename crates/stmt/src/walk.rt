@@ -18,14 +18,14 @@ use project::kinds::{Kind, kind_of};
 use split::{Split, first_list, push_entries};
 
 // The numbers of the walk's state: the end of the list and how many items are placed.
-#[derive(Drop)]
+#[derive(Clone, Copy)]
 pub struct ItemWalk {
     pub end: usize,
     pub placed: usize,
 }
 
 // What a visit came to.
-#[derive(Drop)]
+#[derive(Clone, Copy)]
 pub enum Outcome {
     WentOn(ItemWalk),
     Placed(ItemWalk),
@@ -33,7 +33,7 @@ pub enum Outcome {
 }
 
 // How a run stopped, with the visits made; or that the next visit may need a longer array.
-#[derive(Drop)]
+#[derive(Clone, Copy)]
 pub enum Ending {
     Finished(u32),
     Spent(u32),
