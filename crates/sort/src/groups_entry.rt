@@ -7,8 +7,7 @@ ghost use Rattle.sort.specs.Guarantees.{GroupsEntryGuaranteed};
 use super::report;
 
 // The number of the answer, which is 13 where the report is short; then nothing is touched.
-#[unsafe(no_mangle)]
-pub extern "C" fn escarpim_groups(
+pub fn escarpim_groups(
     project: &[u8],
     reply: &mut [u8],
     report: &mut [u8],
