@@ -8,17 +8,9 @@ pub mod Gathering
 pub mod ModuleWalk
 pub mod Orders
 pub mod PathLaws
-pub mod Splits
 pub mod ItemWalk
-pub mod GroupOrder
-pub mod FirstList
 pub mod Sums
-pub mod Classes
 pub mod ModuleOrder
-pub mod OrderCalls
-pub mod Calls
-pub mod LargerAllowances
-pub mod GivenOrders
 pub mod Entries
 pub mod Demands
 pub mod Allowances

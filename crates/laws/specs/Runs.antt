@@ -82,25 +82,3 @@ module _ {State : Type 0} (w : Walk State) (limit : ℕ) where
       go (at-end h e k) = (h, k)
       go (at-allowance t h e k) = (h, omega arith)
       go (at-limit t h f k) = (h, k)
-
-  -- One allowance and a larger one, from the same state on.
-  abbrev Both : (left more made : ℕ) → State → Type 0
-  Both left more made s = Extends (run w limit left made s) (run w limit more made s)
-
-  pub run-extends : (left more made : ℕ) (s : State) → left ≤ more → Both left more made s
-  run-extends zero more made s h = go (tested (w.ended s))
-    where
-      go : Tested (w.ended s) → Both 0 more made s
-      go (holds e) = rw (run-ended w limit 0 made s e, run-ended w limit more made s e) same_end
-      go (fails e) = rw (run-spent w limit made s e) (goes_on (run-visits more made s).0)
-  run-extends (suc left) zero made s h = absurd (omega arith)
-  run-extends (suc left) (suc more) made s h = go (tested (w.ended s)) (run-extends left more (suc made) (w.visit s) (omega arith))
-    where
-      after : w.ended s ≡ false → Tested (ltb limit (length (w.list (w.visit s)))) → Both left more (suc made) (w.visit s)
-          → Both (suc left) (suc more) made s
-      after e (holds f) both = rw (run-full w limit left made s e f, run-full w limit more made s e f) same_full
-      after e (fails f) both = rw (run_on w limit left made s e f, run_on w limit more made s e f) both
-
-      go : Tested (w.ended s) → Both left more (suc made) (w.visit s) → Both (suc left) (suc more) made s
-      go (holds e) both = rw (run-ended w limit (suc left) made s e, run-ended w limit (suc more) made s e) same_end
-      go (fails e) both = after e (tested (ltb limit (length (w.list (w.visit s))))) both

@@ -12,7 +12,7 @@ use Rattle.laws.specs.Lists.{Tested, holds, fails, tested}
 use Rattle.laws.specs.Runs.{visits_of}
 use Rattle.laws.specs.Terms.{Given, CirclesMatch, visit_limit}
 use Rattle.laws.specs.Accepted.{Accepted}
-use Rattle.laws.specs.ModuleOrder.{Bounded, finishes, spends, fills, bounded}
+use Rattle.laws.proofs.ModuleOrder.{Bounded, finishes, spends, fills, bounded}
 
 -- A refusal is not given.
 refused-order : {A : Type 0} (n module_visits item_visits : ℕ) → 0 < n → Given (refusal n module_visits item_visits) → A

@@ -14,10 +14,10 @@ use Rattle.laws.specs.Terms.{Kept, module_of, groups_of_run, groups_made, GroupN
 use Rattle.laws.specs.Accepted.{Accepted}
 use Rattle.laws.specs.ModuleVisit.{∈-is_done, is_done-∈}
 use Rattle.laws.specs.ModuleWalk.{Grouped, groups-made}
-use Rattle.laws.specs.Splits.{kept_rows-∈, ∈-kept_rows, once-kept_rows}
-use Rattle.laws.specs.ModuleOrder.{InOrder, then-group, groups-in-order}
-use Rattle.laws.specs.OrderCalls.{EachOnce, InTurn, in-turn, Rows, rows-in-turn, MayStandBefore, within-group, After, none_left, then-after, rows-after}
-use Rattle.laws.specs.Calls.{OrderGiven}
+use Rattle.laws.proofs.Splits.{kept_rows-∈, ∈-kept_rows, once-kept_rows}
+use Rattle.laws.proofs.ModuleOrder.{InOrder, then-group, groups-in-order}
+use Rattle.laws.proofs.OrderCalls.{EachOnce, InTurn, in-turn, Rows, rows-in-turn, MayStandBefore, within-group, After, none_left, then-after, rows-after}
+use Rattle.laws.proofs.Calls.{OrderGiven}
 
 -- Groups that are in order, read from the first on: where m imports n, which does not reach m, a group that lists m comes after one that lists n.
 older : {p : Project} (groups : List (List ℕ)) {earlier : List (List ℕ)} → InOrder p (reverse_aux groups earlier) → InOrder p earlier

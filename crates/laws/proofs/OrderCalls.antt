@@ -18,8 +18,8 @@ use Rattle.laws.specs.Counting.{∈-is_empty}
 use Rattle.laws.specs.Orders.{and-true, Before, before-append, before-right, before-across, before-first}
 use Rattle.laws.specs.PathLaws.{reaches-map}
 use Rattle.laws.specs.ModuleVisit.{∈-is_done, is_done-∈, is_done-cons, undone-cons}
-use Rattle.laws.specs.Splits.{kept_rows-∈, ∈-kept_rows, ∈-kept_rows_of, given_rows-∈, ∈-given_rows, once-given_rows, giving}
-use Rattle.laws.specs.GroupOrder.{MayPrecede, sorted}
+use Rattle.laws.proofs.Splits.{kept_rows-∈, ∈-kept_rows, ∈-kept_rows_of, given_rows-∈, ∈-given_rows, once-given_rows, giving}
+use Rattle.laws.proofs.GroupOrder.{MayPrecede, sorted}
 use Rattle.laws.specs.Terms.{Kept, module_of, BelongsTo, GroupNeeds}
 
 -- The groups sorted in turn, `earlier` being those before them, latest first, and the rows that they give.

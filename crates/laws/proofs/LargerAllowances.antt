@@ -10,8 +10,9 @@ use Rattle.rules.specs.Modules.{ModuleState, module_walk, module_start, run_modu
 use Rattle.rules.specs.Items.{ItemState, item_walk, item_start, group_of, numbering, order_of, keeps_row_order, giving_modules, given_rows, sort_modules, sort_group}
 use Rattle.rules.specs.Calls.{Answer, refusal, allowed, module_list_limit, item_list_limit, order_bytes, groups_bytes, groups_answer, groups_of_project, groups_call, continue_with, order_groups, order_answer, after_groups, order_of_project, order_call}
 use Rattle.laws.specs.Lists.{Tested, holds, fails, tested}
-use Rattle.laws.specs.Runs.{visits_of, Extends, same_end, same_full, goes_on, run-visits, run-extends}
-use Rattle.laws.specs.Calls.{order-short, order-long, groups-short, groups-long, order-of, groups-of, groups-answer-visits, order-answer-visits, after-groups-visits}
+use Rattle.laws.specs.Runs.{visits_of, Extends, same_end, same_full, goes_on, run-visits}
+use Rattle.laws.proofs.Runs.{run-extends}
+use Rattle.laws.proofs.Calls.{order-short, order-long, groups-short, groups-long, order-of, groups-of, groups-answer-visits, order-answer-visits, after-groups-visits}
 
 -- Item runs: the order of a group, and of the groups in turn.
 order-made : (rows : List ℕ) (stop : Stop ItemState) → visits_of (order_of rows stop) ≡ visits_of stop

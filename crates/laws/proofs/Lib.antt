@@ -1,0 +1,15 @@
+pub mod Runs
+pub mod Splits
+pub mod ItemWalk
+pub mod GroupOrder
+pub mod FirstList
+pub mod Classes
+pub mod ModuleOrder
+pub mod OrderCalls
+pub mod Calls
+pub mod LargerAllowances
+pub mod GivenOrders
+pub mod Demands
+pub mod EntryDemands
+pub mod Allowances
+pub mod EntryAllowances
