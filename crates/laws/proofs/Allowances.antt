@@ -1,15 +1,9 @@
 -- "A larger allowance changes no key", of the two calls. The terms stand in specs/Allowances.antt; the same of the entries is in
 -- EntryAllowances.antt. Assumes nothing.
-use Rattle.std.specs.Prelude.{ℕ, ◌≤◌, ◌<◌, ◌≡◌, refl, ◌⊎◌, List, ltb, length, take}
-use Rattle.std.proofs.Common.{arith, ◌∙◌, inl, ⊎_elim, le-ltb}
-use Rattle.std.proofs.Math.Path.{sym, ap}
-use Rattle.rules.specs.Project.{Reading, refused, accepted, read, number32}
-use Rattle.rules.specs.Calls.{Answer, refusal, allowed, groups_call, order_call, report_bytes, reported, Entry, groups_entry, order_entry}
-use Rattle.laws.proofs.LargerAllowances.{Larger, same, further, groups-call-larger, order-call-larger, Within, within_more, groups-call-within, order-call-within, allowed-small}
-use Rattle.laws.specs.Lists.{Tested, holds, fails, tested}
-use Rattle.laws.specs.Entries.{reported-short, reported-long, visits-read, items-read, report-read, given-read, order-read}
-use Rattle.laws.specs.Demands.{order_read, visits_read}
-use Rattle.laws.proofs.EntryDemands.{read_off}
+use Rattle.std.specs.Prelude.{ℕ, ◌≤◌, refl, List}
+use Rattle.std.proofs.Common.{arith, ⊎_elim}
+use Rattle.rules.specs.Calls.{Answer, allowed, groups_call, order_call}
+use Rattle.laws.proofs.LargerAllowances.{Larger, same, further, groups-call-larger, order-call-larger}
 use Rattle.laws.specs.Allowances.{ChangesNoKey}
 
 changes-none : {x y : Answer} → Larger x y → ChangesNoKey x y

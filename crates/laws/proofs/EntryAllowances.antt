@@ -1,16 +1,16 @@
 -- "A larger allowance changes no key", of the entries, and what two hosts read off. Assumes nothing.
-use Rattle.std.specs.Prelude.{ℕ, ◌≤◌, ◌<◌, ◌≡◌, refl, ◌⊎◌, List, ltb, length, take}
+use Rattle.std.specs.Prelude.{ℕ, ◌≤◌, ◌≡◌, refl, List, ltb, length}
 use Rattle.std.proofs.Common.{arith, ◌∙◌, inl, ⊎_elim, le-ltb}
 use Rattle.std.proofs.Math.Path.{sym, ap}
-use Rattle.rules.specs.Project.{Reading, refused, accepted, read, number32}
-use Rattle.rules.specs.Calls.{Answer, refusal, allowed, groups_call, order_call, report_bytes, reported, Entry, groups_entry, order_entry}
+use Rattle.rules.specs.Project.{Reading, refused, accepted, read}
+use Rattle.rules.specs.Calls.{Answer, refusal, allowed, order_call, report_bytes, reported, groups_entry, order_entry}
 use Rattle.laws.proofs.LargerAllowances.{Larger, same, further, groups-call-larger, order-call-larger, Within, within_more, groups-call-within, order-call-within, allowed-small}
 use Rattle.laws.specs.Lists.{Tested, holds, fails, tested}
 use Rattle.laws.specs.Entries.{reported-short, reported-long, visits-read, items-read, report-read, given-read, order-read}
-use Rattle.laws.specs.Demands.{order_read, visits_read}
+use Rattle.laws.specs.Demands.{order_read}
 use Rattle.laws.proofs.EntryDemands.{read_off}
-use Rattle.laws.specs.Allowances.{ChangesNoKey, item_visits_read, EntryChangesNoKey, OneKey}
-use Rattle.laws.proofs.Allowances.{groups-key, order-key}
+use Rattle.laws.specs.Allowances.{EntryChangesNoKey, OneKey}
+use Rattle.laws.proofs.Allowances.{order-key}
 
 module _ (b : ℕ) (reply report : List ℕ) where
   entry-changes-none : {x y : Answer} → Larger x y → Within (allowed b) x → Within (allowed b) y

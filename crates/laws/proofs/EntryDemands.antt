@@ -1,19 +1,14 @@
 -- Demand 3 of the request about the exported entries: what a host reads off the reply and the report. Assumes nothing.
-use Rattle.std.specs.Prelude.{ℕ, ◌+◌, ◌*◌, ◌≤◌, ◌≡◌, ◌⊎◌, false, List, ◌∷◌, ◌++◌, length, take}
-use Rattle.std.proofs.Common.{arith, le_trans, le-ltb}
+use Rattle.std.specs.Prelude.{ℕ, ◌+◌, ◌*◌, ◌≤◌, ◌≡◌, List, length}
+use Rattle.std.proofs.Common.{arith, le-ltb}
 use Rattle.std.proofs.Math.Path.{subst⁻¹}
-use Rattle.rules.specs.Lists.{Reaches}
-use Rattle.rules.specs.Project.{Project, accepted, read, number32}
-use Rattle.rules.specs.Modules.{ImportsModule, ReachesModule}
-use Rattle.rules.specs.Items.{kind_at, keeps_row_order}
-use Rattle.rules.specs.Calls.{allowed, module_list_limit, groups_bytes, groups_call, order_call, Entry, groups_entry, order_entry}
-use Rattle.laws.specs.Lists.{◌∈◌, Once}
-use Rattle.laws.specs.Orders.{Before}
-use Rattle.laws.specs.Terms.{Given, Kept, module_of, groups_made, GroupNeeds, CirclesMatch, visit_limit}
-use Rattle.laws.specs.Accepted.{Accepted, read-accepted}
-use Rattle.laws.proofs.ModuleOrder.{walk_ends, visit-limit-most, visit-limit-fits}
-use Rattle.laws.proofs.Calls.{OrderGiven, order-of, groups-of, call-given, groups-visits, order-visits, walk-visits, groups-given}
-use Rattle.laws.proofs.GivenOrders.{given-once, given-kept, kept-given, kept-count, kept-most, given-dependencies, given-imports}
+use Rattle.rules.specs.Project.{Project, accepted, read}
+use Rattle.rules.specs.Calls.{allowed, groups_call, order_call, groups_entry, order_entry}
+use Rattle.laws.specs.Terms.{Given, groups_made, CirclesMatch, visit_limit}
+use Rattle.laws.specs.Accepted.{read-accepted}
+use Rattle.laws.proofs.ModuleOrder.{visit-limit-most}
+use Rattle.laws.proofs.Calls.{call-given}
+use Rattle.laws.proofs.GivenOrders.{kept-count, kept-most}
 use Rattle.laws.specs.Entries.{reported-long, given-read, order-read, visits-most}
 use Rattle.laws.specs.Demands.{OnceEach, Dependencies, ImportsFirst, order_read, visits_read}
 use Rattle.laws.proofs.Demands.{once-each, dependencies, imports, visits, grant}

@@ -12,7 +12,7 @@ use Rattle.std.proofs.Math.ListN.{length}
 use Rattle.rules.specs.Lists.{is_empty, any, elem, up_from}
 use Rattle.rules.specs.Project.{Project}
 use Rattle.rules.specs.Walk.{Stop, finished, spent, full}
-use Rattle.rules.specs.Modules.{imports_of, import_count, ImportsModule, ReachesModule, ModuleState, module_state, is_done, undone_imports, outside_imports, visit_module, module_list, groups_of, module_walk, module_start, run_modules}
+use Rattle.rules.specs.Modules.{imports_of, import_count, ImportsModule, ModuleState, module_state, is_done, undone_imports, outside_imports, visit_module, module_list, groups_of, module_walk, module_start, run_modules}
 use Rattle.rules.specs.Calls.{module_list_limit}
 use Rattle.laws.specs.Lists.{◌∈◌, false≢true, Tested, holds, fails, tested, elem-true, false-elem, mem?, ∈-self, keep-∈, once-keep, once-length, length_without, up_from-∈, ∈-up_from, length-up_from, total, total-most, total-suc, ∈-total}
 use Rattle.laws.specs.Counting.{is_empty_false, empty-∈, keep_all}

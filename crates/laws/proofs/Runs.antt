@@ -1,10 +1,10 @@
 -- What a run under an allowance says of the run under a larger one, over any walk and list limit. Assumes nothing.
-use Prim.Native.Nat.{ℕ, zero, suc, ◌+◌, ◌≤◌, ◌<◌}
-use Rattle.std.proofs.Common.{arith, ltb-true}
-use Rattle.std.specs.Prelude.{◌≡◌, true, false, ltb, length}
-use Rattle.rules.specs.Walk.{Walk, Stop, finished, spent, full, run}
-use Rattle.laws.specs.Lists.{Tested, holds, fails, tested}
-use Rattle.laws.specs.Runs.{run-ended, run-spent, run-full, run_on, visits_of, Extends, same_end, same_full, goes_on, run-visits}
+use Prim.Native.Nat.{ℕ, zero, suc, ◌≤◌}
+use Rattle.std.proofs.Common.{arith}
+use Rattle.std.specs.Prelude.{ltb, length}
+use Rattle.rules.specs.Walk.{Walk, run}
+use Rattle.laws.specs.Lists.{holds, fails, tested}
+use Rattle.laws.specs.Runs.{run-ended, run-spent, run-full, run_on, Extends, same_end, same_full, goes_on, run-visits}
 
 module _ {State : Type 0} (w : Walk State) (limit : ℕ) where
   -- One allowance and a larger one, from the same state on.

@@ -1,12 +1,8 @@
 -- Document 02, item 1: "A larger allowance changes no key", about any two allowances of which the first is no larger, "0 first being replaced by its
 -- meaning", on the same bytes and with replies of one length. A reader opens this page beside Demands.antt. Assumes nothing.
-use Rattle.std.specs.Prelude.{ℕ, ◌≤◌, ◌<◌, ◌≡◌, refl, ◌⊎◌, List, ltb, length, take}
-use Rattle.std.proofs.Common.{arith, ◌∙◌, inl, ⊎_elim, le-ltb}
-use Rattle.std.proofs.Math.Path.{sym, ap}
-use Rattle.rules.specs.Project.{Reading, refused, accepted, read, number32}
-use Rattle.rules.specs.Calls.{Answer, refusal, allowed, groups_call, order_call, report_bytes, reported, Entry, groups_entry, order_entry}
-use Rattle.laws.specs.Lists.{Tested, holds, fails, tested}
-use Rattle.laws.specs.Entries.{reported-short, reported-long, visits-read, items-read, report-read, given-read, order-read}
+use Rattle.std.specs.Prelude.{ℕ, ◌≤◌, ◌<◌, ◌≡◌, ◌⊎◌, take}
+use Rattle.rules.specs.Project.{number32}
+use Rattle.rules.specs.Calls.{Answer, Entry}
 use Rattle.laws.specs.Demands.{order_read, visits_read}
 
 -- An answer and the one under the larger allowance.

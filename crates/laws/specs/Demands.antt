@@ -1,18 +1,14 @@
 -- Demand 3 of the request, in five statements about the calls, over all bytes, reply lengths and allowances, and the same of the exported entries.
 -- A reader opens this page first. The terms stand in Terms.antt; `Before a b l` says that a stands before b in l. Assumes nothing.
-use Rattle.std.specs.Prelude.{ℕ, ◌+◌, ◌*◌, ◌≤◌, ◌≡◌, ◌⊎◌, false, List, ◌∷◌, ◌++◌, length, take}
-use Rattle.std.proofs.Common.{arith, le_trans, le-ltb}
-use Rattle.std.proofs.Math.Path.{subst⁻¹}
+use Rattle.std.specs.Prelude.{ℕ, ◌≡◌, ◌⊎◌, false, List, ◌∷◌, ◌++◌, take}
 use Rattle.rules.specs.Lists.{Reaches}
-use Rattle.rules.specs.Project.{Project, accepted, read, number32}
+use Rattle.rules.specs.Project.{Project, number32}
 use Rattle.rules.specs.Modules.{ImportsModule, ReachesModule}
 use Rattle.rules.specs.Items.{kind_at, keeps_row_order}
-use Rattle.rules.specs.Calls.{allowed, module_list_limit, groups_bytes, groups_call, order_call, Entry, groups_entry, order_entry}
+use Rattle.rules.specs.Calls.{Entry}
 use Rattle.laws.specs.Lists.{◌∈◌, Once}
 use Rattle.laws.specs.Orders.{Before}
-use Rattle.laws.specs.Terms.{Given, Kept, module_of, groups_made, GroupNeeds, CirclesMatch, visit_limit}
-use Rattle.laws.specs.Accepted.{Accepted, read-accepted}
-use Rattle.laws.specs.Entries.{reported-long, given-read, order-read, visits-most}
+use Rattle.laws.specs.Terms.{Kept, module_of, GroupNeeds}
 
 -- 1. "an order that it gives holds every kept item just once and nothing else"
 pub record OnceEach (p : Project) (order : List ℕ) : Type 0 where
