@@ -1,5 +1,6 @@
 -- Document 02, item 1: "A larger allowance changes no key", about any two allowances of which the first is no larger, "0 first being replaced by its
--- meaning", on the same bytes and with replies of one length. A reader opens this page beside Demands.antt. Assumes nothing.
+-- meaning", on the same bytes and with replies of one length. A reader opens this page beside Demands.antt. Here are
+-- the terms; the theorems are in proofs/Allowances.antt and EntryAllowances.antt. Assumes nothing.
 use Rattle.std.specs.Prelude.{ℕ, ◌≤◌, ◌<◌, ◌≡◌, ◌⊎◌, take}
 use Rattle.rules.specs.Project.{number32}
 use Rattle.rules.specs.Calls.{Answer, Entry}

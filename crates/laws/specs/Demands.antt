@@ -1,5 +1,6 @@
 -- Demand 3 of the request, in five statements about the calls, over all bytes, reply lengths and allowances, and the same of the exported entries.
--- A reader opens this page first. The terms stand in Terms.antt; `Before a b l` says that a stands before b in l. Assumes nothing.
+-- A reader opens this page first. Here are the terms that they are stated in, with those of Terms.antt; the theorems are in proofs/Demands.antt and
+-- EntryDemands.antt. `Before a b l` says that a stands before b in l. Assumes nothing.
 use Rattle.std.specs.Prelude.{ℕ, ◌≡◌, ◌⊎◌, false, List, ◌∷◌, ◌++◌, take}
 use Rattle.rules.specs.Lists.{Reaches}
 use Rattle.rules.specs.Project.{Project, number32}

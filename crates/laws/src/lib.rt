@@ -1,3 +1,3 @@
-// What the definitions of `rules` guarantee, as theorems: they stand in specs/. This crate has no code.
+// What the definitions of `rules` guarantee, as theorems: they stand in specs/ and proofs/. This crate has no code.
 
 #![tactic(auto)]
