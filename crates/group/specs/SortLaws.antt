@@ -8,8 +8,8 @@ use Rattle.rules.specs.Walk.{Stop, run}
 use Rattle.rules.specs.Items.{numbering, group_of, ItemState, item_walk, item_start, order_of, sort_modules}
 use Rattle.rules.specs.Calls.{item_list_limit}
 use Rattle.laws.specs.Orders.{get_or-∈}
-use Rattle.laws.specs.Splits.{well_formed}
-use Rattle.laws.specs.ItemWalk.{run-finished}
+use Rattle.laws.proofs.Splits.{well_formed}
+use Rattle.laws.proofs.ItemWalk.{run-finished}
 use Rattle.split.specs.declared.Split.{Split}
 use Rattle.stmt.specs.declared.walk.Ending.{Ending as WalkEnding}
 use Rattle.stmt.specs.Walks.{Ran}

@@ -8,7 +8,7 @@ use Rattle.rules.specs.Items.{number_of, numbering}
 use Rattle.laws.specs.Lists.{◌∈◌, ∈-self, Once, none, next, Tested, holds, fails, tested, elem-true, true-elem, false-elem}
 use Rattle.laws.specs.Orders.{get_or-∈}
 use Rattle.laws.specs.Counting.{Below}
-use Rattle.laws.specs.Splits.{kept_rows-∈, given_rows-∈, numbering-∈, once-numbering, get_or-number_of, number_of-get_or}
+use Rattle.laws.proofs.Splits.{kept_rows-∈, given_rows-∈, numbering-∈, once-numbering, get_or-number_of, number_of-get_or}
 use Rattle.split.specs.declared.Split.{Split}
 use Rattle.split.specs.Splits.{SplitRoom, Splits}
 use Rattle.split.specs.CallerLaws.{split-room}

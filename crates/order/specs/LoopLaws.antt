@@ -15,8 +15,8 @@ use Rattle.rules.specs.Calls.{item_list_limit, group_bytes, continue_with, order
 use Rattle.laws.specs.Lists.{◌∈◌, ∈-right, ∈-self, keep-∈, reverse-∈, true-elem, not-true, both, length-parts, none}
 use Rattle.laws.specs.Counting.{Below}
 use Rattle.laws.specs.Terms.{module_of}
-use Rattle.laws.specs.Splits.{given_rows-∈, once-given_rows, numbering-∈, once-numbering, giving}
-use Rattle.laws.specs.OrderCalls.{given-belongs, segment}
+use Rattle.laws.proofs.Splits.{given_rows-∈, once-given_rows, numbering-∈, once-numbering, giving}
+use Rattle.laws.proofs.OrderCalls.{given-belongs, segment}
 use Rattle.lists.specs.Bits.{bit}
 use Rattle.lists.specs.BitLaws.{bit-zero}
 use Rattle.owners.specs.GroupBytes.{members_at, first_below, first_byte, first-within, first-members, first_past}

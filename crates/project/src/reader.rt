@@ -1,5 +1,5 @@
-// Reading a section row by row, by a struct that holds its bytes and a position. Functions over such a struct are proved by hand, so they are few and
-// thin: each takes it apart and leaves the work to a function on the slice and the number, which stands above it.
+// Reading a section row by row, by a struct that holds its bytes and a position. Functions over such a struct are few and thin: each takes it apart and
+// leaves the work to a function on the slice and the number, which stands above it.
 ghost use Rattle.std.specs.Prelude.{◌≡◌, ◌+◌, ◌^◌, ◌≤◌, ◌<◌, length, take, drop};
 ghost use Rattle.project.specs.Readers.{width, has_row, bad_row, good_row, any_bad, reader_at, past};
 
@@ -133,8 +133,7 @@ impl<'a> Reader<'a> {
     }
 }
 
-// 6, 7 or 9, of a whole section. The reader goes on while rows are good: it ends at a bad row, or where no row is left. A caller has a plain slice,
-// and its proof no walk.
+// 6, 7 or 9, of a whole section. The reader goes on while rows are good: it ends at a bad row, or where no row is left. A caller has a plain slice.
 pub fn any_bad(section: &[u8], check: Check) -> bool
     ensures { result ≡ any_bad check section.now }
 {

@@ -11,7 +11,7 @@ use Rattle.rules.specs.Modules.{ModuleState, groups_in_order, run_modules}
 use Rattle.rules.specs.Calls.{refusal, module_list_limit, overwrite, group_bytes, groups_bytes, groups_answer, groups_of_project, groups_call}
 use Rattle.laws.specs.Accepted.{Accepted, read-accepted, read-passes}
 use Rattle.laws.specs.ModuleWalk.{groups-made, groups-fit}
-use Rattle.laws.specs.Calls.{groups-short, groups-long}
+use Rattle.laws.proofs.Calls.{groups-short, groups-long}
 use Rattle.project.specs.Sections.{Accepts, part}
 use Rattle.project.specs.declared.Layout.{Layout}
 use Rattle.chunk.specs.Walks.{Ended, has-finished, was-spent, list-was-full, Holds, Groupable}

@@ -7,9 +7,11 @@ use Rattle.rules.specs.Project.{Project, accepted, read}
 use Rattle.rules.specs.Calls.{allowed, overwrite, groups_call, order_call, Entry, groups_entry, order_entry}
 use Rattle.laws.specs.Terms.{Given, groups_made, CirclesMatch, visit_limit}
 use Rattle.laws.specs.Accepted.{read-accepted}
-use Rattle.laws.specs.Calls.{call-given}
-use Rattle.laws.specs.GivenOrders.{kept-count}
-use Rattle.laws.specs.Demands.{OnceEach, Dependencies, ImportsFirst, once-each, dependencies, imports, visits, grant, order_read, visits_read, entry-once-each, entry-dependencies, entry-imports, entry-visits, entry-grant}
+use Rattle.laws.proofs.Calls.{call-given}
+use Rattle.laws.proofs.GivenOrders.{kept-count}
+use Rattle.laws.specs.Demands.{OnceEach, Dependencies, ImportsFirst, order_read, visits_read}
+use Rattle.laws.proofs.Demands.{once-each, dependencies, imports, visits, grant}
+use Rattle.laws.proofs.EntryDemands.{entry-once-each, entry-dependencies, entry-imports, entry-visits, entry-grant}
 use Rattle.sort.specs.declared.Numbers.{Numbers}
 use Rattle.sort.specs.Answers.{Answered}
 use Rattle.sort.specs.OrderLaws.{kept-fits}

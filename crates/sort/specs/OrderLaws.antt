@@ -20,9 +20,9 @@ use Rattle.laws.specs.Lists.{Tested, holds, fails, tested, once-length, reverse-
 use Rattle.laws.specs.Accepted.{Accepted, read-accepted}
 use Rattle.laws.specs.Runs.{Stopped, at-end}
 use Rattle.laws.specs.ModuleWalk.{WalkedIn, walked, groups-made, groups-fit}
-use Rattle.laws.specs.Splits.{kept_rows-∈, once-kept_rows}
-use Rattle.laws.specs.Calls.{order-of, order-short, order-long}
-use Rattle.laws.specs.GivenOrders.{kept-count}
+use Rattle.laws.proofs.Splits.{kept_rows-∈, once-kept_rows}
+use Rattle.laws.proofs.Calls.{order-of, order-short, order-long}
+use Rattle.laws.proofs.GivenOrders.{kept-count}
 use Rattle.project.specs.Sections.{Accepts, part}
 use Rattle.project.specs.declared.Layout.{Layout}
 use Rattle.chunk.specs.declared.walk.ModuleWalk.{ModuleWalk}

@@ -17,8 +17,8 @@ use Rattle.rules.specs.Project.{Item, Project, item_row, pair_rows}
 use Rattle.rules.specs.Items.{is_kept, is_injected, no_item, item_at, kind_at, kept_rows, kept_rows_of, uninjected_rows, injected_rows, numbering, Range, ranges_from, in_range, range_of, group_of, kind_of, starts as starts_of}
 use Rattle.laws.specs.Lists.{Tested, holds, fails, tested}
 use Rattle.laws.specs.Orders.{get_d_map}
-use Rattle.laws.specs.Splits.{true-in_range, in_range-true, runs}
-use Rattle.laws.specs.FirstList.{length-ranges}
+use Rattle.laws.proofs.Splits.{true-in_range, in_range-true, runs}
+use Rattle.laws.proofs.FirstList.{length-ranges}
 use Rattle.lists.specs.Pairs.{chain}
 use Rattle.lists.specs.ChainLaws.{chain-step, left, left_less}
 use Rattle.project.specs.RowLaws.{pairs-length}

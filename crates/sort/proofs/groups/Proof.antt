@@ -1,6 +1,6 @@
 use mathlib.Core.Path.{sym, ◌∙◌}
 use Rattle.rules.specs.Project.{project_of}
-use Rattle.laws.specs.Calls.{groups-of}
+use Rattle.laws.proofs.Calls.{groups-of}
 use Rattle.project.specs.ReadLaws.{answer-refused, answer-accepted}
 use Rattle.sort.specs.GroupLaws.{call-refused}
 use Rattle.sort.specs.Guarantees.{groups-guaranteed}

@@ -1,6 +1,6 @@
 use mathlib.Core.Path.{sym, ◌∙◌}
 use Rattle.rules.specs.Project.{project_of}
-use Rattle.laws.specs.Calls.{order-of}
+use Rattle.laws.proofs.Calls.{order-of}
 use Rattle.project.specs.ReadLaws.{answer-refused, answer-accepted}
 use Rattle.sort.specs.OrderLaws.{allowed-most, order-refused}
 use Rattle.sort.specs.Guarantees.{order-guaranteed}

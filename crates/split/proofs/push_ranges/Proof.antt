@@ -5,7 +5,7 @@ use native.Mathlib.Omega.{arith}
 use mathlib.Core.Path.{◌≡◌, refl, ◌∙◌}
 use lib.ListN.{length, get_or, drop}
 use Rattle.rules.specs.Items.{Group}
-use Rattle.laws.specs.Splits.{size}
+use Rattle.laws.proofs.Splits.{size}
 use Rattle.split.specs.FirstLists.{Pushed, held_by, RangesListable}
 use Rattle.split.specs.FirstListLaws.{held_start, held-room, held-turn}
 use Rattle.split.proofs.push_ranges.Statement.{statement}
