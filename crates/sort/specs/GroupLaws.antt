@@ -5,7 +5,7 @@ use Rattle.std.proofs.Math.Nat.{le_trans}
 use Rattle.std.proofs.Math.Path.{sym, ap, subst}
 use mathlib.Core.List.{List}
 use Rattle.std.proofs.Math.ListN.{length}
-use Rattle.rules.specs.Project.{Project, accepted, refused, read, project_of, module_limit, import_row, pair_rows, circle_lists, bad_circles}
+use Rattle.rules.specs.Project.{Project, refused, read, project_of, module_limit, import_row, pair_rows, circle_lists, bad_circles}
 use Rattle.rules.specs.Walk.{Stop, finished, spent, full}
 use Rattle.rules.specs.Modules.{ModuleState, groups_in_order, run_modules}
 use Rattle.rules.specs.Calls.{refusal, module_list_limit, overwrite, group_bytes, groups_bytes, groups_answer, groups_of_project, groups_call}

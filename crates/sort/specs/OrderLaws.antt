@@ -1,5 +1,5 @@
 -- Laws for the proofs of the order call. Assumes nothing.
-use Rattle.std.specs.Prelude.{ℕ, ◌+◌, ◌-◌, ◌/◌, ◌≤◌, ◌<◌, ◌≡◌, refl, cond, eqb, ltb, drop}
+use Rattle.std.specs.Prelude.{ℕ, ◌+◌, ◌-◌, ◌/◌, ◌≤◌, ◌<◌, ◌≡◌, refl, eqb, ltb, drop}
 use native.Mathlib.Omega.{arith}
 use Rattle.std.proofs.Math.Nat.{le_trans}
 use Rattle.std.proofs.Common.{mul-le-mul, ◌∙◌, take_at, lt-ltb, le-ltb, ltb-false, eqb-true}

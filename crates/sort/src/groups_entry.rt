@@ -7,12 +7,7 @@ ghost use Rattle.sort.specs.Guarantees.{GroupsEntryGuaranteed};
 use super::report;
 
 // The number of the answer, which is 13 where the report is short; then nothing is touched.
-pub fn escarpim_groups(
-    project: &[u8],
-    reply: &mut [u8],
-    report: &mut [u8],
-    allowance: u32,
-) -> u32
+pub fn escarpim_groups(project: &[u8], reply: &mut [u8], report: &mut [u8], allowance: u32) -> u32
     ensures answer { entry_of result reply.new report.new ≡ groups_entry project.now reply.old report.old allowance }
     ensures guarantees { GroupsEntryGuaranteed project.now reply.old report.old allowance
         (entry_of result reply.new report.new) }

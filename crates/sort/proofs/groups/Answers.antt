@@ -1,0 +1,25 @@
+use mathlib.Core.Path.{sym}
+use Rattle.rules.specs.Project.{project_of}
+use Rattle.laws.proofs.Calls.{groups-of}
+use Rattle.project.specs.ReadLaws.{answer-refused, answer-accepted}
+use Rattle.sort.specs.GroupLaws.{call-refused}
+use Rattle.sort.specs.Guarantees.{groups-guaranteed}
+use Rattle.sort.proofs.groups.Goals as goal
+
+pub groups_of-requires : goal.groups_of-requires
+groups_of-requires c = answer-accepted c.args.project.now (sym c.in-Accepted.ensures)
+
+pub returns-in-Refused : goal.returns-in-Refused
+returns-in-Refused c =
+    let a = c.args in
+    let g = groups-guaranteed a.project.now a.reply.now a.allowance
+    (rw c.refusal.ensures (call-refused a.project.now a.reply.now a.allowance _ (answer-refused a.project.now (sym c.in-Refused.ensures)))) in
+    record { answer = g.0; guarantees = g.1 }
+
+pub returns-in-Accepted : goal.returns-in-Accepted
+returns-in-Accepted c =
+    let a = c.args in
+    let reads = (answer-accepted a.project.now (sym c.in-Accepted.ensures)).reads in
+    let g = groups-guaranteed a.project.now a.reply.now a.allowance
+    (rw (groups-of a.project.now (project_of a.project.now) reads, ← c.allowed.ensures) c.groups_of.ensures) in
+    record { answer = g.0; guarantees = g.1 }
