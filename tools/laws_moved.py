@@ -9,7 +9,7 @@ import re
 import sys
 
 ROOT = sys.argv[1] if len(sys.argv) > 1 else "crates"
-USE = re.compile(r"^((?:ghost )?use )Rattle\.laws\.specs\.(\w+)\.\{([^}]*)\}(;?)$", re.M)
+USE = re.compile(r"^((?:ghost )?use )Rattle\.laws\.(?:specs|proofs)\.(\w+)\.\{([^}]*)\}(;?)$", re.M)
 DECLARED = re.compile(r"^\s*(?:abbrev\s+|unfoldable\s+)?pub\s+(?:data\s+|record\s+)?([^\s:(){}]+)|^\s{2,}([^\s:(){}]+) :", re.M)
 
 

@@ -10,7 +10,8 @@ use Rattle.rules.specs.Paths.{dependencies_of, dependants_of, DependsOn}
 use Rattle.rules.specs.Items.{is_injected, uninjected_rows, Range, ranges_from, range_of, Group, group_of, kind_of, numbers, same_range, starts, first_list, ItemState, item_state, opened, find_open, waiting, preceding, after_preceding, after_open, visit_item, item_start}
 use Rattle.laws.specs.Lists.{◌∈◌, false≢true, both, Tested, holds, fails, tested, ∈-self, keep-∈}
 use Rattle.laws.specs.Counting.{no_member}
-use Rattle.laws.proofs.Splits.{size, WellFormed, true-in_range, range_of-holds, length-kinds, well_formed}
+use Rattle.laws.specs.Splits.{size, WellFormed}
+use Rattle.laws.proofs.Splits.{true-in_range, range_of-holds, length-kinds, well_formed}
 use Rattle.laws.proofs.ItemWalk.{dependencies_of-∈, dependants_of-∈}
 use Rattle.split.specs.declared.Split.{Split}
 use Rattle.lists.specs.Pairs.{chain}

@@ -7,7 +7,7 @@ use Rattle.std.proofs.Math.Seq.{drop-cons}
 use Rattle.rules.specs.Lists.{keep}
 use Rattle.rules.specs.Items.{is_injected, numbers_of, Group, kind_of, numbers, starts as starts_of, first_list}
 use Rattle.laws.specs.Lists.{length-up_from}
-use Rattle.laws.proofs.Splits.{size}
+use Rattle.laws.specs.Splits.{size}
 use Rattle.split.specs.declared.Split.{Split}
 use Rattle.split.specs.Shown.{Ranges}
 use Rattle.split.specs.FirstLists.{held_by, Listable}

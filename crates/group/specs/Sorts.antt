@@ -6,7 +6,7 @@ use Rattle.rules.specs.Walk.{Stop, finished, spent, full}
 use Rattle.rules.specs.Items.{numbering}
 use Rattle.rules.specs.Calls.{item_list_limit}
 use Rattle.laws.specs.Accepted.{Accepted}
-use Rattle.laws.proofs.Splits.{Giving}
+use Rattle.laws.specs.Splits.{Giving}
 use Rattle.split.specs.Splits.{ModuleChains}
 use Rattle.layout.specs.Needs.{OwnNeeds}
 use Rattle.group.specs.Walking.{WalkScratch}

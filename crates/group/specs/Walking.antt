@@ -4,7 +4,7 @@ use Rattle.rules.specs.Project.{Project, Need, item_limit}
 use Rattle.rules.specs.Items.{numbering, Group, group_of, first_list, item_start}
 use Rattle.rules.specs.Calls.{item_list_limit}
 use Rattle.laws.specs.Accepted.{Accepted}
-use Rattle.laws.proofs.Splits.{size, WellFormed, Giving}
+use Rattle.laws.specs.Splits.{size, WellFormed, Giving}
 use Rattle.split.specs.declared.Split.{Split}
 use Rattle.split.specs.FirstLists.{Listable}
 use Rattle.graph.specs.Rows.{row_words}

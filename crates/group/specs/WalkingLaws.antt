@@ -6,7 +6,8 @@ use mathlib.Core.List.{List}
 use Rattle.rules.specs.Project.{Project, Need, item_limit}
 use Rattle.rules.specs.Walk.{run}
 use Rattle.rules.specs.Items.{starts as starts_of, numbers as numbers_in, first_list, group_of, kind_of, path_holds, Group, ItemState, item_walk, item_start}
-use Rattle.laws.proofs.Splits.{size, length-kinds, length-numbering}
+use Rattle.laws.specs.Splits.{size}
+use Rattle.laws.proofs.Splits.{length-kinds, length-numbering}
 use Rattle.laws.proofs.FirstList.{first_list-limit}
 use Rattle.laws.proofs.ItemWalk.{walked_start}
 use Rattle.split.specs.declared.Split.{Split}

@@ -15,7 +15,8 @@ use Rattle.rules.specs.Lists.{is_empty, keep, up_from}
 use Rattle.rules.specs.Project.{Project}
 use Rattle.rules.specs.Items.{is_injected, kept_rows_of, uninjected_rows, injected_rows, numbering, Range, ranges_from, numbers_of, range_of, Group, group_of, kind_of, numbers, starts, first_list}
 use Rattle.laws.specs.Lists.{◌∈◌, false≢true, Tested, holds, fails, tested, ∈-self, keep-∈, once-keep, once-up_from, once-length, up_from-∈, ∈-up_from, length-up_from, total, ∈-total}
-use Rattle.laws.proofs.Splits.{true-in_range, Found, found, nowhere, range_of-found, runs, in-range, gives-some, size, WellFormed, Giving, length-kinds, well_formed, length-numbering, giving-below}
+use Rattle.laws.proofs.Splits.{true-in_range, Found, found, nowhere, range_of-found, runs, in-range, gives-some, length-kinds, well_formed, length-numbering, giving-below}
+use Rattle.laws.specs.Splits.{size, WellFormed, Giving}
 use Rattle.laws.specs.Counting.{below_length}
 use Rattle.laws.specs.Accepted.{Accepted}
 use Rattle.laws.proofs.ItemWalk.{range_of-start}

@@ -12,7 +12,8 @@ use Rattle.rules.specs.Items.{is_injected, kind_at, given_rows, numbering, numbe
 use Rattle.laws.specs.Lists.{◌∈◌, both, elem-true, true-elem, keep-∈, ∈-keep, reverse-∈, ∈-reverse, Once, once-reverse}
 use Rattle.laws.specs.Orders.{and-true, once-map, get_or-∈, Before, before-first, before-second, before-map, reverse-before, before-once}
 use Rattle.laws.specs.PathLaws.{reaches-within}
-use Rattle.laws.proofs.Splits.{numbering-∈, ∈-numbering, once-numbering, get_or-number_of, number_of-get_or, size, length-kinds, kind_of-row, needs-to, reaches-rows, same-range, Giving, well_formed}
+use Rattle.laws.proofs.Splits.{numbering-∈, ∈-numbering, once-numbering, get_or-number_of, number_of-get_or, length-kinds, kind_of-row, needs-to, reaches-rows, same-range, well_formed}
+use Rattle.laws.specs.Splits.{size, Giving}
 use Rattle.laws.specs.Terms.{module_of}
 use Rattle.laws.specs.ItemWalk.{Excused}
 use Rattle.laws.proofs.ItemWalk.{Placed, run-finished}

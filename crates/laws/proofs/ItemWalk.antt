@@ -19,7 +19,8 @@ use Rattle.laws.specs.Runs.{Stopped, at-end, stopped}
 use Rattle.laws.specs.Orders.{Before, here, later, below-append, below-reverse, ends-∈, ∈-ends, keep-empty, not-fails}
 use Rattle.laws.specs.Counting.{flat_map-∈, ∈-flat_map, Below, below-nil, below-cons}
 use Rattle.laws.specs.PathLaws.{reaches-reverse, in_paths-sound}
-use Rattle.laws.proofs.Splits.{size, WellFormed, in_range-true, numbers_of-∈, ∈-numbers_of, true-in_range, Found, found, nowhere, range_of-found, range_of-holds}
+use Rattle.laws.specs.Splits.{size, WellFormed}
+use Rattle.laws.proofs.Splits.{in_range-true, numbers_of-∈, ∈-numbers_of, true-in_range, Found, found, nowhere, range_of-found, range_of-holds}
 
 -- Neighbours are the ends of needs.
 pub dependencies_of-∈ : (needs : List Need) (x : ℕ) {d : ℕ} → d ∈ dependencies_of needs x → DependsOn needs x d

@@ -19,6 +19,7 @@ use Rattle.rules.specs.Items.{is_kept, is_injected, item_at, kind_at, no_item, k
 use Rattle.laws.specs.Lists.{◌∈◌, false≢true, both, not-true, Tested, holds, fails, tested, ∈-append, ∈-left, ∈-right, ∈-self, keep-∈, ∈-keep, Once, none, next, once-append, once-keep, once-reverse, elem-true, true-elem, up_from-∈, ∈-up_from, length_without, length-parts}
 use Rattle.laws.specs.Orders.{not-fails, and-true, once-flat_map, get_or-∈, get_or-middle, get_or-behind, get_d_map, positions-∈, ∈-positions, once-positions}
 use Rattle.laws.specs.Counting.{is_empty_false, flat_map-∈, ∈-flat_map, Below, below_length}
+use Rattle.laws.specs.Splits.{WellFormed, Giving}
 use Rattle.laws.specs.Terms.{Kept, module_of}
 use Rattle.laws.specs.PathLaws.{reaches-map}
 
@@ -321,24 +322,6 @@ module _ (p : Project) where
           let q : r.start ≡ s = ap (λ (z : Range). z.start) e in
           omega (arith, gives-some m (g m ∈-self))
       go (inr k) f = omega (arith, f k)
-
--- The number of a group's items: its numbers are those below it.
-abbrev pub size : Group → ℕ
-size g = length g.kinds
-
--- What the walk of a group relies on: needs lead from number to number, starts are numbers, ranges hold uninjected numbers, no two ranges share one,
--- and each uninjected number is in a range.
-pub record WellFormed (g : Group) : Type 0 where
-  pub ends-below : (x y : ℕ) → DependsOn g.needs x y → (x < size g) × (y < size g)
-  pub starts-below : (r : Range) → r ∈ g.ranges → r.start < size g
-  pub holds-uninjected : (r : Range) (x : ℕ) → r ∈ g.ranges → in_range x r ≡ true → (x < size g) × (is_injected (kind_of g x) ≡ false)
-  pub apart : (r q : Range) (x : ℕ) → r ∈ g.ranges → q ∈ g.ranges → in_range x r ≡ true → in_range x q ≡ true → r ≡ q
-  pub ranged : (x : ℕ) → x < size g → is_injected (kind_of g x) ≡ false → (r : Range) × (r ∈ g.ranges) × (in_range x r ≡ true)
-
--- The modules that give a group's items: each listed once, and each with a kept item. "modules already used or without kept items are passed over"
-pub record Giving (p : Project) (modules : List ℕ) : Type 0 where
-  pub once : Once modules
-  pub gives : (m : ℕ) → m ∈ modules → is_empty (kept_rows_of p m) ≡ false
 
 pub giving : (p : Project) (earlier : List (List ℕ)) {group : List ℕ} → Once group → Giving p (giving_modules p earlier group)
 unfolding giving_modules

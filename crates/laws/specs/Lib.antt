@@ -8,6 +8,7 @@ pub mod Gathering
 pub mod ModuleWalk
 pub mod Orders
 pub mod PathLaws
+pub mod Splits
 pub mod ItemWalk
 pub mod Sums
 pub mod ModuleOrder

@@ -5,7 +5,7 @@ use Rattle.rules.specs.Project.{Project, item_limit, module_limit}
 use Rattle.rules.specs.Items.{number_of}
 use Rattle.laws.specs.Lists.{Once}
 use Rattle.laws.specs.Accepted.{Accepted}
-use Rattle.laws.proofs.Splits.{Giving}
+use Rattle.laws.specs.Splits.{Giving}
 use Rattle.split.specs.declared.Split.{Split}
 use Rattle.split.specs.Splits.{ModuleChains, Splits}
 

@@ -15,7 +15,8 @@ use Rattle.laws.specs.Lists.{Tested, holds, fails, tested, up_from-∈}
 use Rattle.laws.specs.Orders.{get_or-∈, get_or-behind}
 use Rattle.laws.specs.Counting.{below_length, keep_all}
 use Rattle.laws.specs.Accepted.{Accepted}
-use Rattle.laws.proofs.Splits.{runs, size, Giving, giving-below, length-numbering, length-kinds, kind_of-row, uninjected-∈, injected-∈, well_formed}
+use Rattle.laws.proofs.Splits.{runs, giving-below, length-numbering, length-kinds, kind_of-row, uninjected-∈, injected-∈, well_formed}
+use Rattle.laws.specs.Splits.{size, Giving}
 use Rattle.split.specs.declared.Split.{Split}
 use Rattle.split.specs.Splits.{SplitRoom, Splits}
 use Rattle.split.specs.SplitLaws.{numbering-parts}

@@ -4,7 +4,7 @@ use mathlib.Core.List.{List, ◌++◌, flat_map}
 use Rattle.rules.specs.Lists.{keep, up_from}
 use Rattle.rules.specs.Project.{item_limit}
 use Rattle.rules.specs.Items.{is_injected, numbers_of, range_of, Group, kind_of, numbers, starts as starts_of, first_list}
-use Rattle.laws.proofs.Splits.{size}
+use Rattle.laws.specs.Splits.{size}
 use Rattle.lists.specs.Stacks.{stack}
 use Rattle.split.specs.Shown.{Ranges}
 use Rattle.split.specs.declared.Split.{Split}

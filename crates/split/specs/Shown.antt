@@ -1,7 +1,7 @@
 -- How arrays show the kinds and the ranges of a group's numbers. Assumes nothing.
 use Rattle.std.specs.Prelude.{ℕ, ◌+◌, ◌≤◌, ◌<◌, ◌≡◌, List, length, get_or}
 use Rattle.rules.specs.Items.{range_of, Group, kind_of}
-use Rattle.laws.proofs.Splits.{size}
+use Rattle.laws.specs.Splits.{size}
 
 -- The kinds of a group's numbers.
 pub record Kinds (g : Group) (kinds : List ℕ) : Type 0 where

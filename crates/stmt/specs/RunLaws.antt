@@ -10,7 +10,7 @@ use Rattle.rules.specs.Items.{Group, numbers, ItemState, item_list, placed_of, v
 use Rattle.rules.specs.Calls.{item_list_limit}
 use Rattle.laws.specs.Lists.{◌∈◌, both, Tested, holds, fails, tested, elem-true, true-elem, mem?, all_true, true-all, next, up_from-∈, ∈-up_from, once-up_from, length-up_from, once-length}
 use Rattle.laws.specs.Counting.{below_length, below-cons}
-use Rattle.laws.proofs.Splits.{size}
+use Rattle.laws.specs.Splits.{size}
 use Rattle.laws.specs.Runs.{run-ended, run-spent, run-full, run_on}
 use Rattle.laws.proofs.ItemWalk.{Walked, walked-visit}
 use Rattle.lists.specs.Stacks.{stack}

@@ -5,7 +5,7 @@ use Rattle.std.proofs.Math.Path.{ap}
 use Rattle.rules.specs.Lists.{any, elem}
 use Rattle.rules.specs.Project.{item_limit}
 use Rattle.rules.specs.Items.{Group, has_moved, item_list, placed_of, item_start}
-use Rattle.laws.proofs.Splits.{size}
+use Rattle.laws.specs.Splits.{size}
 use Rattle.lists.specs.Bits.{bit_at}
 use Rattle.lists.specs.Stacks.{stack}
 use Rattle.graph.specs.Rows.{row_words, cleared}

@@ -13,7 +13,8 @@ use Rattle.rules.specs.Paths.{dependencies_of}
 use Rattle.rules.specs.Items.{is_injected, Range, in_range, range_of, numbers_of, Group, kind_of, ItemState, item_state, has_moved, Opened, opened, find_open, is_dropped, waiting, one_by_one, preceding, after_preceding, after_open, visit_item, item_list, placed_of}
 use Rattle.laws.specs.Lists.{◌∈◌, false≢true, ∈-self, elem-false, both, keep-∈, not-true, next}
 use Rattle.laws.specs.Counting.{below_length, below-cons}
-use Rattle.laws.proofs.Splits.{size, Found as InRanges, found, nowhere, range_of-found}
+use Rattle.laws.specs.Splits.{size}
+use Rattle.laws.proofs.Splits.{Found as InRanges, found, nowhere, range_of-found}
 use Rattle.lists.specs.Bits.{bit_at, Inserted}
 use Rattle.lists.specs.Stacks.{stack}
 use Rattle.lists.specs.StackLaws.{stack-length}

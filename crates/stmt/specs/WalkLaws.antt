@@ -17,7 +17,8 @@ use Rattle.rules.specs.Paths.{dependencies_of, dependants_of}
 use Rattle.rules.specs.Items.{is_injected, may_drop, in_range, range_of, Group, kind_of, path_holds, weight_of, same_range, has_moved, Opened, opened, with_open, find_open, is_dropped, waiting, one_by_one, preceding, numbers_of}
 use Rattle.rules.specs.Calls.{item_list_limit}
 use Rattle.laws.specs.Lists.{Tested, holds, fails, tested, ◌∈◌, both, keep-∈, up_from-∈, length-parts, once-different, eqb-sym}
-use Rattle.laws.proofs.Splits.{size, WellFormed, in_range-true}
+use Rattle.laws.specs.Splits.{size, WellFormed}
+use Rattle.laws.proofs.Splits.{in_range-true}
 use Rattle.lists.specs.Bits.{bit_at, Inserted}
 use Rattle.lists.specs.BitLaws.{cell-eqb, cell_below}
 use Rattle.laws.specs.Counting.{below_length, no_member}

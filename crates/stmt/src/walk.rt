@@ -7,7 +7,7 @@ ghost use Rattle.rules.specs.Walk.{run as runs};
 ghost use Rattle.rules.specs.Calls.{item_list_limit};
 ghost use Rattle.lists.specs.Bits.{bit_at, Inserted};
 ghost use Rattle.lists.specs.Stacks.{stack};
-ghost use Rattle.laws.proofs.Splits.{size};
+ghost use Rattle.laws.specs.Splits.{size};
 ghost use Rattle.project.specs.Kinds.{injected_by, may_drop_by};
 ghost use Rattle.stmt.specs.Walks.{Cell, Noted, Skippable, Skipped, Testable, stays as stays_open, Findable, Found, Listed, Relisted, Awaited, Pushed, Precedable, First, Fits, Room, Front, Put, Settling, Walking, Startable, Started, SameVisits, Came, Ran};
 

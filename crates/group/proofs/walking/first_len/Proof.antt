@@ -5,7 +5,7 @@ use native.Mathlib.Omega.{arith}
 use mathlib.Core.Path.{◌≡◌, refl}
 use lib.ListN.{length, get_or, drop}
 use Rattle.rules.specs.Items.{Group}
-use Rattle.laws.proofs.Splits.{size}
+use Rattle.laws.specs.Splits.{size}
 use Rattle.split.specs.Shown.{RangeIs, Ranges}
 use Rattle.split.specs.FirstLists.{held_by}
 use Rattle.group.specs.LengthLaws.{first-length, held_none, held_more}

@@ -4,7 +4,7 @@ use native.Mathlib.Omega.{arith}
 use lib.ListN.{length, length-set}
 use borrow.Author.Rules.{rules}
 use Rattle.rules.specs.Calls.{item_list_limit}
-use Rattle.laws.proofs.Splits.{size}
+use Rattle.laws.specs.Splits.{size}
 use Rattle.stmt.specs.Walks.{relisted, too_many}
 use Rattle.stmt.specs.WalkLaws.{listed-less, pushed-over, pushed-two, waiting-entries, pushed_room, pushed_most}
 use Rattle.stmt.proofs.walk.put_preceding.Statement.{statement}

@@ -9,7 +9,7 @@ use lib.ListN.{length}
 use denote.Enum.Declared.{tag_of}
 use Rattle.rules.specs.Items.{Group, ItemState, item_list}
 use Rattle.rules.specs.Calls.{item_list_limit}
-use Rattle.laws.proofs.Splits.{size}
+use Rattle.laws.specs.Splits.{size}
 use Rattle.stmt.specs.declared.walk.Outcome.{Outcome}
 use Rattle.stmt.specs.contracts.walk.Outcome.{the_type}
 use Rattle.stmt.specs.Walks.{Room, Walking, SameVisits, Running, Came, went_on, placed_one, was-full, has_ended, was-crowded}
