@@ -55,10 +55,10 @@ module _ {g : Group} {low high starts : List ℕ} {s : Split} {words : ℕ} {pla
       → moved' ≡ cleared (s.count * words) moved → length moved' ≡ length moved → FirstListed g list list' end → length list' ≡ length list
       → Started g (64 * words) placed' moved' list' (record { end = end; placed = 0 })
   unfolding item_start item_list placed_of moved_of stack
-  started e Placed-same f Moved-same l List-same order room =
+  started e placed-same f moved-same l list-same order room =
       record {
         entries = record { shown = l.shown; within = omega (arith, l.count, h.first-most); held = omega (arith, l.count, h.listable.room) };
-        items = record { bits = row-none (size g) words placed h.within h.placed-size e Placed-same; shown = refl; size = room };
+        items = record { bits = row-none (size g) words placed h.within h.placed-size e placed-same; shown = refl; size = room };
         pairs =
-            table_none words moved h.within h.most h.moved-size (f ∙ ap (λ (n : ℕ). cleared (n * words) moved) h.count-is) Moved-same;
+            table_none words moved h.within h.most h.moved-size (f ∙ ap (λ (n : ℕ). cleared (n * words) moved) h.count-is) moved-same;
       }
