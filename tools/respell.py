@@ -5,7 +5,7 @@ usage: python3 tools/respell.py        at the top, once, after port.py and befor
 
 Renamed are names declared in .antt files of crates/ (definitions, lemmas, constructors, fields, arguments of imports by `as`), wherever they
 stand as whole words: in .antt and .rt files, in must-fail edits, and in the pages. The names of functions in src/ are in snake case already.
-It stops where two names would fall together in one file.
+It prints where two names would fall together in one file.
 """
 
 import os
