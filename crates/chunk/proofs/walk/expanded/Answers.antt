@@ -1,0 +1,11 @@
+-- `chunk::walk::expanded` meets its contract. Assumes nothing.
+use Rattle.std.proofs.Common.{arith, refl}
+use Rattle.chunk.specs.Walks.{no_room}
+use Rattle.chunk.specs.VisitLaws.{expanded-put}
+use Rattle.chunk.proofs.walk.expanded.Goals as goal
+
+pub returns-then-end-open-gt-LIST : goal.returns-then-end-open-gt-LIST
+returns-then-end-open-gt-LIST c = no_room (omega (arith, c.requires.expandable.counted)) refl
+
+pub returns : goal.returns
+returns c = expanded-put c.requires.expandable.counted (omega (arith, c.if-end-open-gt-LIST.false)) c.place_all.ensures

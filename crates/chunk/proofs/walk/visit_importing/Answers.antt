@@ -1,0 +1,29 @@
+-- `chunk::walk::visit_importing` meets its contract. No circle, or one that is gathered. Assumes nothing.
+use Rattle.std.proofs.Common.{arith}
+use Rattle.chunk.specs.CameLaws.{front_below, marks-shown, came-expanded, expandable, alone-members, importing-count, is-uncircled, is-circled}
+use Rattle.chunk.proofs.walk.visit_importing.Goals as goal
+
+pub circle_of-g-requires : goal.circle_of-g-requires
+circle_of-g-requires c =
+    let h = c.requires.1.undone.walking in
+    record { sound = h.sound; below = front_below h; room = omega arith }
+
+pub expanded-requires-clause-members : goal.expanded-requires-clause-members
+expanded-requires-clause-members c = alone-members c.requires.1.undone.walking
+
+pub expanded-requires-clause-expandable : goal.expanded-requires-clause-expandable
+expanded-requires-clause-expandable c =
+    let i = c.requires.1 in
+    let h = i.undone.walking in
+    expandable h 0 (alone-members h) (importing-count i)
+
+pub returns-then-g-eq0 : goal.returns-then-g-eq0
+returns-then-g-eq0 c b i =
+    let h = i.undone.walking in
+    came-expanded h (is-uncircled i c.circle_of-g.ensures c.if-g-eq0.true) c.expanded.ensures (marks-shown h)
+
+pub visit_circle-requires : goal.visit_circle-requires
+visit_circle-requires c = (c.requires.0, is-circled c.requires.1 c.circle_of-g.ensures c.if-g-eq0.false)
+
+pub returns : goal.returns
+returns c b i = c.visit_circle.ensures b (is-circled i c.circle_of-g.ensures c.if-g-eq0.false)
