@@ -8,5 +8,3 @@ pub mod Walks
 pub mod WalkLaws
 pub mod RunLaws
 pub mod StartLaws
-pub mod VisitLaws
-pub mod CameLaws

@@ -1,7 +1,7 @@
 -- `chunk::walk::expanded` meets its contract. Assumes nothing.
 use Rattle.std.proofs.Common.{arith, refl}
 use Rattle.chunk.specs.Walks.{no_room}
-use Rattle.chunk.specs.VisitLaws.{expanded-put}
+use Rattle.chunk.proofs.VisitLaws.{expanded-put}
 use Rattle.chunk.proofs.walk.expanded.Goals as goal
 
 pub returns-then-end-open-gt-LIST : goal.returns-then-end-open-gt-LIST

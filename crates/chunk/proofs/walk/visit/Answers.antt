@@ -1,6 +1,6 @@
 -- `chunk::walk::visit` meets its contract. A module that is done, or one that is not. Assumes nothing.
 use Rattle.std.proofs.Common.{sym, ◌∙◌}
-use Rattle.chunk.specs.CameLaws.{front_below, behind, at_front, from_front, is-passed, is-undone}
+use Rattle.chunk.proofs.CameLaws.{front_below, behind, at_front, from_front, is-passed, is-undone}
 use Rattle.chunk.proofs.walk.visit.Goals as goal
 
 pub has-requires : goal.has-requires

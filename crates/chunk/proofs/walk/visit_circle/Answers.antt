@@ -1,5 +1,5 @@
 -- `chunk::walk::visit_circle` meets its contract. A whole circle, or one with imports outside it. Assumes nothing.
-use Rattle.chunk.specs.CameLaws.{group-room, came-grouped, circle-members, is_whole, is-leaving}
+use Rattle.chunk.proofs.CameLaws.{group-room, came-grouped, circle-members, is_whole, is-leaving}
 use Rattle.chunk.proofs.walk.visit_circle.Goals as goal
 
 pub count_all-open-requires-clause-members : goal.count_all-open-requires-clause-members

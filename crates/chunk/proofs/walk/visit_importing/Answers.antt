@@ -1,6 +1,6 @@
 -- `chunk::walk::visit_importing` meets its contract. No circle, or one that is gathered. Assumes nothing.
 use Rattle.std.proofs.Common.{arith}
-use Rattle.chunk.specs.CameLaws.{front_below, marks-shown, came-expanded, expandable, alone-members, importing-count, is-uncircled, is-circled}
+use Rattle.chunk.proofs.CameLaws.{front_below, marks-shown, came-expanded, expandable, alone-members, importing-count, is-uncircled, is-circled}
 use Rattle.chunk.proofs.walk.visit_importing.Goals as goal
 
 pub circle_of-g-requires : goal.circle_of-g-requires

@@ -1,6 +1,6 @@
 -- `chunk::walk::visit_leaving` meets its contract. A module that is marked, or one that is not. Assumes nothing.
 use Rattle.std.proofs.Common.{sym, ◌∙◌}
-use Rattle.chunk.specs.CameLaws.{front_below, marks-shown, group-room, came-grouped, came-expanded, expandable, circle-members, marks-more, leaving-count, gives_up, is-marked}
+use Rattle.chunk.proofs.CameLaws.{front_below, marks-shown, group-room, came-grouped, came-expanded, expandable, circle-members, marks-more, leaving-count, gives_up, is-marked}
 use Rattle.chunk.proofs.walk.visit_leaving.Goals as goal
 
 pub has-requires : goal.has-requires

@@ -1,6 +1,6 @@
 -- `chunk::walk::visit_undone` meets its contract. No undone imports, or some. Assumes nothing.
 use Rattle.std.proofs.Common.{[]}
-use Rattle.chunk.specs.CameLaws.{front_below, group-room, came-grouped, alone-members, marks-more, marks-none, is-alone, is-importing}
+use Rattle.chunk.proofs.CameLaws.{front_below, group-room, came-grouped, alone-members, marks-more, marks-none, is-alone, is-importing}
 use Rattle.chunk.proofs.walk.visit_undone.Goals as goal
 
 pub count_all-open-requires-clause-members : goal.count_all-open-requires-clause-members

@@ -27,7 +27,7 @@ use Rattle.chunk.specs.ImportLaws.{members-most, open-outside, open-undone}
 use Rattle.chunk.specs.Walks.{marks_of, Grouped, Expandable, Expanded, put, no_room, Shows, Walking, Came, went_on, made-group, was-full, Behind, state_at, Undone, Importing, Circled, Leaving}
 use Rattle.chunk.specs.WalkLaws.{empty-none, empty-some}
 use Rattle.chunk.specs.RunLaws.{entry-count}
-use Rattle.chunk.specs.VisitLaws.{more_bytes, front-shown, visit-done, visit-alone, visit-uncircled, visit-whole, visit-gave-up, visit-marked, shows-passed, shows-grouped, shows-expanded}
+use Rattle.chunk.proofs.VisitLaws.{more_bytes, front-shown, visit-done, visit-alone, visit-uncircled, visit-whole, visit-gave-up, visit-marked, shows-passed, shows-grouped, shows-expanded}
 
 -- A visit of a front module.
 module _ {b : Behind} {section to heads next list groups : List ℕ} {w : ModuleWalk} {m : ℕ}
