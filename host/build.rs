@@ -3,7 +3,7 @@
 use std::path::{Path, PathBuf};
 use std::{env, fs};
 
-/// Where `rt staticlib sort` leaves it, from this folder.
+/// Where `.ci/archive` leaves it, from this folder.
 const USUAL_ARCHIVE: &str = "../target/staticlib/libsort.a";
 
 fn main() {
@@ -18,7 +18,7 @@ fn main() {
     if !archive.is_file() {
         println!(
             "cargo::error=The archive of the sorter is missing: {} is not there. \
-             `rt staticlib sort`, run in the folder of crates.txt, makes it \
+             `.ci/archive`, in the folder of crates.txt, makes it \
              (target/staticlib/libsort.a); ESCARPIM_ARCHIVE names another place.",
             archive.display()
         );

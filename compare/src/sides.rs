@@ -10,7 +10,7 @@ pub struct Side {
     pub order: Entry,
 }
 
-/// The proved code, as `rt staticlib sort` hands it to a host.
+/// The proved code, as `.ci/archive` hands it to a host.
 #[cfg(feature = "archive")]
 pub const ARCHIVE: Side = Side {
     name: "archive",

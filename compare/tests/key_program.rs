@@ -10,13 +10,13 @@ use std::path::PathBuf;
 use std::process::{Child, Command, Stdio};
 use std::time::Duration;
 
-/// Where the program is: ESCARPIM_KEY, or where `rt check key` puts it.
+/// Where the program is: ESCARPIM_KEY, or where `rt run` in crates/key puts it.
 fn program() -> PathBuf {
-    let usual = concat!(env!("CARGO_MANIFEST_DIR"), "/../target/bin/key");
+    let usual = concat!(env!("CARGO_MANIFEST_DIR"), "/../crates/key/out/key");
     let path = PathBuf::from(std::env::var_os("ESCARPIM_KEY").unwrap_or(usual.into()));
     assert!(
         path.is_file(),
-        "there is no key program at {}: make it by `rt check key`, or name it by ESCARPIM_KEY",
+        "there is no key program at {}: make it by `rt run` in crates/key, or name it by ESCARPIM_KEY",
         path.display()
     );
     path

@@ -1,5 +1,5 @@
 -- The answer of an order call, read off the numbers returned and the reply. Assumes nothing.
-use Rattle.std.specs.Prelude.{ℕ, ◌≤◌, ◌<◌, ◌-◌, ◌≡◌, List, ◌++◌, ltb, take, drop}
+use Rattle.std.specs.Prelude.{ℕ, ◌≤◌, ◌<◌, ◌≡◌, List, ◌++◌, ltb, take, drop}
 use native.Mathlib.Omega.{arith}
 use Rattle.std.proofs.Common.{zero-add, sym, ap, ◌∙◌, take_at}
 use Rattle.std.proofs.Math.Path.{refl}
@@ -13,8 +13,8 @@ use Rattle.rules.specs.Calls.{Answer, refusal, allowed, module_list_limit, order
 use Rattle.laws.specs.Lists.{Tested, holds, fails, tested}
 use Rattle.laws.specs.Terms.{Given}
 use Rattle.laws.specs.Accepted.{read-accepted}
-use Rattle.laws.proofs.Calls.{order-short, order-long, order-of, call-given}
-use Rattle.laws.proofs.GivenOrders.{kept-count}
+use Rattle.laws.specs.Calls.{order-short, order-long, order-of, call-given}
+use Rattle.laws.specs.GivenOrders.{kept-count}
 use Rattle.sort.specs.declared.Numbers.{Numbers}
 use Rattle.sort.specs.Answers.{Answered}
 use Rattle.keys.specs.declared.Rendered.{Rendered}

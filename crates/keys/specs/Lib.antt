@@ -1,5 +1,4 @@
 pub mod Texts
 pub mod DecimalLaws
 pub mod TextLaws
-pub mod SizeLaws
 pub mod AnswerLaws

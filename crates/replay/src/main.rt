@@ -4,10 +4,12 @@
 // each line that differs, and how many calls were made and how many differ. No contract says what is compared or printed.
 #![tactic(auto)]
 
-ghost use Rattle.std.specs.Prelude.{◌+◌, ◌≤◌, ◌<◌, length};
+ghost use Rattle.std.specs.Prelude.{◌+◌, ◌^◌, ◌≤◌, ◌<◌, length};
 
-use libc::{STDIN_FILENO, STDOUT_FILENO};
+use input::read_full;
 use lines::text;
+use std::io;
+use std::io::Read;
 
 // Sets an array to what a reply or a report has to become, with the bytes around it.
 fn expect_bytes(words: &[u8], expected: &mut [u8])
@@ -87,39 +89,41 @@ enum Outcome {
 }
 
 // Prints a line that differs.
-fn note(line: &[u8], same: bool) -> Outcome {
+fn note(rt: &impl Print, line: &[u8], same: bool) -> io::Result<Outcome> {
     if same {
-        return Outcome::Same;
+        return Ok(Outcome::Same);
     }
-    io::write_all(STDOUT_FILENO, b"differs: ");
-    io::write_all(STDOUT_FILENO, line);
-    io::write_all(STDOUT_FILENO, b"\n");
-    Outcome::Differs
+    rt.write_all(b"differs: ")?;
+    rt.write_all(line)?;
+    rt.write_all(b"\n")?;
+    Ok(Outcome::Differs)
 }
 
 // Replays a line. One that is neither a remark nor a call counts as one that differs.
 fn replay_line(
+    rt: &impl Print,
     line: &[u8],
     project: &mut [u8],
     reply: &mut [u8],
     report: &mut [u8],
     reply_due: &mut [u8],
     report_due: &mut [u8],
-) -> Outcome
+) -> io::Result<Outcome>
     requires in_bounds { (4 ≤ length reply.old) × (4 ≤ length report.old) }
     requires in_bounds_2 { (4 ≤ length reply_due.old) × (4 ≤ length report_due.old) }
 {
     if line.len() == 0 {
-        return Outcome::Remark;
+        return Ok(Outcome::Remark);
     }
     let letter = line[0];
     match letter {
-        b'#' => Outcome::Remark,
+        b'#' => Ok(Outcome::Remark),
         b'g' | b'o' => note(
+            rt,
             line,
             replay_call(letter, line, project, reply, report, reply_due, report_due),
         ),
-        _ => note(line, false),
+        _ => note(rt, line, false),
     }
 }
 
@@ -148,13 +152,14 @@ fn counted(c: Count, outcome: Outcome) -> Count
 }
 
 fn replay_lines(
+    rt: &impl Print,
     lines: &[u8],
     project: &mut [u8],
     reply: &mut [u8],
     report: &mut [u8],
     reply_due: &mut [u8],
     report_due: &mut [u8],
-) -> Count
+) -> io::Result<Count>
     requires in_bounds { (4 ≤ length reply.old) × (4 ≤ length report.old) }
     requires in_bounds_2 { (4 ≤ length reply_due.old) × (4 ≤ length report_due.old) }
 {
@@ -166,41 +171,49 @@ fn replay_lines(
     while at < lines.len() {
         let end = text::find(lines, at, b'\n');
         let outcome = replay_line(
+            rt,
             &lines[at..end],
             project,
             reply,
             report,
             reply_due,
             report_due,
-        );
+        )?;
         count = counted(count, outcome);
         at = text::behind(lines, end);
     }
-    count
+    Ok(count)
 }
 
-fn print_count(c: Count) {
-    io::print_decimal(STDOUT_FILENO, c.calls as u64);
-    io::write_all(STDOUT_FILENO, b" calls, ");
-    io::print_decimal(STDOUT_FILENO, c.differ as u64);
-    io::write_all(STDOUT_FILENO, b" differ\n");
+fn print_count(rt: &impl Print, c: Count) -> io::Result<()> {
+    let calls = c.calls;
+    let differ = c.differ;
+    println!(rt; "{calls} calls, {differ} differ")
 }
 
-fn main() {
-    let mut input = [0u8; 524288];
-    let n = io::read_full(STDIN_FILENO, &mut input);
+// Replays the lines of the first `LIMIT` bytes of the input.
+fn replay_input<const LIMIT: usize>(rt: &impl Print, input: &mut impl Read) -> io::Result<()>
+    requires { LIMIT < 2 ^ 63 }
+{
+    let mut read = [0u8; LIMIT];
+    let n = read_full(input, &mut read)?;
     let mut project = [0u8; 8300];
     let mut reply = [0u8; 4200];
     let mut report = [0u8; 40];
     let mut reply_due = [0u8; 4200];
     let mut report_due = [0u8; 40];
     let c = replay_lines(
-        &input[..n],
+        rt,
+        &read[..n],
         &mut project,
         &mut reply,
         &mut report,
         &mut reply_due,
         &mut report_due,
-    );
-    print_count(c);
+    )?;
+    print_count(rt, c)
+}
+
+fn main(rt: HostRuntime) -> io::Result<()> {
+    replay_input::<524288>(&rt, &mut rt.stdin())
 }

@@ -4,84 +4,113 @@
 // test of compare/ holds that file to the plain rendering.
 #![tactic(auto)]
 
-ghost use Rattle.std.specs.Prelude.{◌≤◌, length};
+ghost use Rattle.std.specs.Prelude.{◌^◌, ◌<◌, ◌≤◌, length};
 
-use libc::{STDIN_FILENO, STDOUT_FILENO};
+use input::read_full;
 use lines::text;
+use std::io;
+use std::io::Read;
 
 // Prints a blank and a number.
-fn print_number(n: u64) {
-    io::write_all(STDOUT_FILENO, b" ");
-    io::print_decimal(STDOUT_FILENO, n);
+fn print_number(rt: &impl Print, n: u64) -> io::Result<()> {
+    print!(rt; " {n}")
 }
 
-fn print_bytes(bytes: &[u8]) {
+fn print_bytes(rt: &impl Print, bytes: &[u8]) -> io::Result<()> {
     let mut i = 0;
     while i < bytes.len() {
-        print_number(bytes[i] as u64);
+        print_number(rt, bytes[i] as u64)?;
         i += 1;
     }
+    Ok(())
 }
 
 // Prints a number, a reply and a report.
-fn print_answer(n: u32, reply: &[u8], report: &[u8]) {
-    print_number(n as u64);
-    io::write_all(STDOUT_FILENO, b" :");
-    print_bytes(reply);
-    io::write_all(STDOUT_FILENO, b" :");
-    print_bytes(report);
-    io::write_all(STDOUT_FILENO, b"\n");
+fn print_answer(rt: &impl Print, n: u32, reply: &[u8], report: &[u8]) -> io::Result<()> {
+    print_number(rt, n as u64)?;
+    rt.write_all(b" :")?;
+    print_bytes(rt, reply)?;
+    rt.write_all(b" :")?;
+    print_bytes(rt, report)?;
+    rt.write_all(b"\n")
 }
 
 // Makes the call of a line and prints its answer.
-fn run_call_line(letter: u8, line: &[u8], project: &mut [u8], reply: &mut [u8], report: &mut [u8])
+fn run_call_line(
+    rt: &impl Print,
+    letter: u8,
+    line: &[u8],
+    project: &mut [u8],
+    reply: &mut [u8],
+    report: &mut [u8],
+) -> io::Result<()>
     requires { (4 ≤ length reply.old) × (4 ≤ length report.old) }
 {
     let r = lines::run_call_line(letter, line, project, reply, report);
     let replied = r.replied;
     let reported = r.reported;
-    print_answer(r.number, &reply[..replied], &report[..reported]);
+    print_answer(rt, r.number, &reply[..replied], &report[..reported])
 }
 
-fn print_line(line: &[u8]) {
-    io::write_all(STDOUT_FILENO, line);
-    io::write_all(STDOUT_FILENO, b"\n");
+fn print_line(rt: &impl Print, line: &[u8]) -> io::Result<()> {
+    rt.write_all(line)?;
+    rt.write_all(b"\n")
 }
 
 // Copies a remark, makes a call, or marks what is neither.
-fn run_line(line: &[u8], project: &mut [u8], reply: &mut [u8], report: &mut [u8])
+fn run_line(
+    rt: &impl Print,
+    line: &[u8],
+    project: &mut [u8],
+    reply: &mut [u8],
+    report: &mut [u8],
+) -> io::Result<()>
     requires { (4 ≤ length reply.old) × (4 ≤ length report.old) }
 {
     if line.len() == 0 {
-        return;
+        return Ok(());
     }
     let letter = line[0];
     match letter {
-        b'#' => print_line(line),
-        b'g' | b'o' => run_call_line(letter, line, project, reply, report),
+        b'#' => print_line(rt, line),
+        b'g' | b'o' => run_call_line(rt, letter, line, project, reply, report),
         _ => {
-            io::write_all(STDOUT_FILENO, b"? ");
-            print_line(line);
+            rt.write_all(b"? ")?;
+            print_line(rt, line)
         }
     }
 }
 
-fn run_lines(lines: &[u8], project: &mut [u8], reply: &mut [u8], report: &mut [u8])
+fn run_lines(
+    rt: &impl Print,
+    lines: &[u8],
+    project: &mut [u8],
+    reply: &mut [u8],
+    report: &mut [u8],
+) -> io::Result<()>
     requires { (4 ≤ length reply.old) × (4 ≤ length report.old) }
 {
     let mut at = 0;
     while at < lines.len() {
         let end = text::find(lines, at, b'\n');
-        run_line(&lines[at..end], project, reply, report);
+        run_line(rt, &lines[at..end], project, reply, report)?;
         at = text::behind(lines, end);
     }
+    Ok(())
 }
 
-fn main() {
-    let mut input = [0u8; 131072];
-    let n = io::read_full(STDIN_FILENO, &mut input);
+// Runs the lines of the first `LIMIT` bytes of the input.
+fn run_input<const LIMIT: usize>(rt: &impl Print, input: &mut impl Read) -> io::Result<()>
+    requires { LIMIT < 2 ^ 63 }
+{
+    let mut read = [0u8; LIMIT];
+    let n = read_full(input, &mut read)?;
     let mut project = [0u8; 8300];
     let mut reply = [0u8; 4200];
     let mut report = [0u8; 40];
-    run_lines(&input[..n], &mut project, &mut reply, &mut report);
+    run_lines(rt, &read[..n], &mut project, &mut reply, &mut report)
+}
+
+fn main(rt: HostRuntime) -> io::Result<()> {
+    run_input::<131072>(&rt, &mut rt.stdin())
 }
