@@ -13,8 +13,8 @@ use Rattle.rules.specs.Calls.{Answer, refusal, allowed, module_list_limit, order
 use Rattle.laws.specs.Lists.{Tested, holds, fails, tested}
 use Rattle.laws.specs.Terms.{Given}
 use Rattle.laws.specs.Accepted.{read-accepted}
-use Rattle.laws.specs.Calls.{order-short, order-long, order-of, call-given}
-use Rattle.laws.specs.GivenOrders.{kept-count}
+use Rattle.laws.proofs.Calls.{order-short, order-long, order-of, call-given}
+use Rattle.laws.proofs.GivenOrders.{kept-count}
 use Rattle.sort.specs.declared.Numbers.{Numbers}
 use Rattle.sort.specs.Answers.{Answered}
 use Rattle.keys.specs.declared.Rendered.{Rendered}

@@ -4,5 +4,4 @@ pub mod SplitLaws
 pub mod FirstLists
 pub mod FirstListLaws
 pub mod RowChains
-pub mod RowChainLaws
 pub mod CallerLaws

@@ -26,7 +26,7 @@ use Rattle.project.specs.Kinds.{kept_by, injected_by, Says}
 use Rattle.project.specs.declared.kinds.Kind.{Kind}
 use Rattle.project.specs.declared.kinds.Kind.TheVariants.{Plain, MayDropAll, MayDropWeak, Injected, Dropped, Refused}
 use Rattle.split.specs.Shown.{Kinds, Ranges}
-use Rattle.split.specs.Splits.{kept_as, kept_as_by, rows_as, numbered_as, RowsAlong, NumberRoom, Numbered, RangeNoted, lows, highs, starts_in, RangesRoom, RangesNoted, SplitRoom, Splits, no_ranges, SplitStored}
+use Rattle.split.specs.Splits.{kept_as, kept_as_by, rows_as, numbered_as, RowsAlong, Numbered, RangeNoted, lows, highs, starts_in, RangesNoted, no_ranges, SplitStored}
 
 -- Positions: of entries that pass equal tests, and of those that pass two.
 keep-cons_if : (test : ℕ → Bool) (b : Bool) (n : ℕ) (l : List ℕ) → keep test (cons_if b n l) ≡ cons_if (b && test n) n (keep test l)
@@ -353,7 +353,7 @@ sets-get_or l a x h k = sym (get_or-take (length l) (sets a 0 l) x 0 k) ∙ ap (
 -- The uninjected rows numbered and the injected ones behind them are the numbering, and the kinds those of the group.
 module _ {p : Project} (modules : List ℕ) {rows kinds rows' kinds' rows'' kinds'' : List ℕ} {u n : ℕ}
     (first : Numbered p (numbered_as false p modules) 0 rows kinds rows' kinds' u) (second : Numbered p (numbered_as true p modules) u rows' kinds' rows'' kinds'' n) where
-  both-numbered : Numbered p (numbering p modules) 0 rows kinds rows'' kinds'' n
+  pub both-numbered : Numbered p (numbering p modules) 0 rows kinds rows'' kinds'' n
   unfolding numbering rows_as
   both-numbered =
       let run : List ℕ = flat_map (uninjected_rows p) modules in
@@ -517,7 +517,7 @@ module _ (p : Project) (value : Range → ℕ) where
           ∙ sym (ap value (range_none p 0 modules x (omega arith)) ∙ z)
 
   -- ranges stored, and then zeros behind them
-  zeros-behind : (modules a : List ℕ) {b c : List ℕ} {u n : ℕ} → b ≡ sets a 0 (values (ranges_from p 0 modules)) → c ≡ sets b u (replicate (n - u) 0)
+  pub zeros-behind : (modules a : List ℕ) {b c : List ℕ} {u n : ℕ} → b ≡ sets a 0 (values (ranges_from p 0 modules)) → c ≡ sets b u (replicate (n - u) 0)
       → u ≡ length (runs p modules) → n ≡ length (numbering p modules) → c ≡ sets a 0 (values (ranges_from p 0 modules) ++ no_ranges p modules)
   zeros-behind modules a {b} {c} {u} {n} e f g h =
       let stored : List ℕ = values (ranges_from p 0 modules) in
@@ -544,67 +544,3 @@ ranges-shown {p} modules {low = low} {high = high} {low' = low'} {high' = high'}
             end = range-filled p (λ (r : Range). r.start + r.count) modules high high' x refl b d.high-whole (omega arith);
           };
     }
-
--- The room for a split is room for its parts: the uninjected rows with their ranges, and the injected ones behind them.
-module _ {p : Project} {modules rows kinds low high starts : List ℕ} (s : SplitRoom p modules rows kinds low high starts) where
-  parts : length (numbered_as false p modules) + length (numbered_as true p modules) ≡ length (numbering p modules)
-  unfolding rows_as
-  parts = sym (numbering-parts p modules)
-
-  pub uninjected-room : NumberRoom (numbered_as false p modules) 0 rows kinds
-  uninjected-room = record { rows-room = omega (arith, parts, s.rows-room); kinds-room = omega (arith, parts, s.kinds-room) }
-
-  pub ranges-room : RangesRoom (numbered_as false p modules) modules low high starts
-  ranges-room =
-      record {
-        most = omega (arith, parts, s.most);
-        low-room = omega (arith, parts, s.low-room);
-        high-room = omega (arith, parts, s.high-room);
-        starts-room = s.starts-room;
-      }
-
-  pub injected-room : {rows' kinds' : List ℕ} {u : ℕ} → Numbered p (numbered_as false p modules) 0 rows kinds rows' kinds' u
-      → NumberRoom (numbered_as true p modules) u rows' kinds'
-  injected-room d =
-      let sizes = numbered-size d in
-      record { rows-room = omega (arith, parts, s.rows-room, sizes.0, d.count); kinds-room = omega (arith, parts, s.kinds-room, sizes.1, d.count) }
-
-  pub filled-room : {rows' kinds' low' high' starts' rows'' kinds'' : List ℕ} {u n : ℕ} → Numbered p (numbered_as false p modules) 0 rows kinds rows' kinds' u
-      → RangesNoted p modules low high starts low' high' starts' → Numbered p (numbered_as true p modules) u rows' kinds' rows'' kinds'' n
-      → (n ≤ length low') × (n ≤ length high')
-  filled-room {n = n} a b c =
-      let y : n ≡ length (numbering p modules) = omega (arith, parts, a.count, c.count) in (
-        omega (arith, ap length b.low-whole, length-sets low 0 (lows (ranges_from p 0 modules)), s.low-room),
-        omega (arith, ap length b.high-whole, length-sets high 0 (highs (ranges_from p 0 modules)), s.high-room),
-      )
-
-  module _ {rows' kinds' low' high' starts' rows'' kinds'' low'' high'' : List ℕ} {u n : ℕ} (first : Numbered p (numbered_as false p modules) 0 rows kinds rows' kinds' u)
-      (noted : RangesNoted p modules low high starts low' high' starts') (second : Numbered p (numbered_as true p modules) u rows' kinds' rows'' kinds'' n)
-      (low-filled : low'' ≡ sets low' u (replicate (n - u) 0)) (high-filled : high'' ≡ sets high' u (replicate (n - u) 0)) where
-    count-all : n ≡ length (numbering p modules)
-    count-all = omega (arith, parts, first.count, second.count)
-
-    count_runs : u ≡ length (runs p modules)
-    unfolding rows_as
-    count_runs = omega (arith, first.count)
-
-    pub split-stored : SplitStored p modules rows kinds low high starts rows'' kinds'' low'' high'' starts'
-    split-stored =
-        record {
-          rows_whole = (both-numbered modules first second).rows_whole;
-          kinds-whole = (both-numbered modules first second).kinds-whole;
-          low-whole = zeros-behind p (λ (r : Range). r.start) modules low noted.low-whole low-filled count_runs count-all;
-          high-whole = zeros-behind p (λ (r : Range). r.start + r.count) modules high noted.high-whole high-filled count_runs count-all;
-          starts-whole = noted.starts-whole;
-        }
-
-    pub split-shown : Splits p modules rows'' kinds'' low'' high'' starts' (record { uninjected = u; count = n })
-    split-shown =
-        record {
-          numbered = numbering-shown modules first second s.rows-room;
-          count-is = count-all;
-          uninjected-is = count_runs;
-          kinds-shown = kinds-shown modules first second s.kinds-room;
-          ranges-shown = ranges-shown modules split-stored s.low-room s.high-room;
-          starts-shown = starts-shown noted s.starts-room;
-        }

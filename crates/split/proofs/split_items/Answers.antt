@@ -1,5 +1,5 @@
 -- `split::split_items` meets its contract: its parts in turn. Assumes nothing.
-use Rattle.split.specs.SplitLaws.{uninjected-room, ranges-room, injected-room, filled-room, split-stored, split-shown}
+use Rattle.split.proofs.SplitRoomLaws.{uninjected-room, ranges-room, injected-room, filled-room, split-stored, split-shown}
 use Rattle.split.proofs.split_items.Goals as goal
 
 pub number_uninjected-uninjected-requires : goal.number_uninjected-uninjected-requires

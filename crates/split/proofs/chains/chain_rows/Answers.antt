@@ -1,5 +1,5 @@
 -- `split::chains::chain_rows` meets its contract: its parts in turn. Assumes nothing.
-use Rattle.split.specs.RowChainLaws.{rows-room, rows-linkable, rows-chained}
+use Rattle.split.proofs.RowChainLaws.{rows-room, rows-linkable, rows-chained}
 use Rattle.split.proofs.chains.chain_rows.Goals as goal
 
 pub write_modules-requires : goal.write_modules-requires

@@ -1,7 +1,7 @@
 use native.Mathlib.Omega.{arith}
 use mathlib.Core.Path.{◌∙◌}
 use lib.ListN.{length-set}
-use Rattle.split.specs.RowChainLaws.{modules-turn, modules-written}
+use Rattle.split.proofs.RowChainLaws.{modules-turn, modules-written}
 use Rattle.split.proofs.chains.write_modules.Goals as goal
 
 pub loop-i-preserved : goal.loop-i-preserved

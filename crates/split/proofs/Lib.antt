@@ -1,0 +1,2 @@
+pub mod RowChainLaws
+pub mod SplitRoomLaws
