@@ -7,6 +7,5 @@ pub mod Passed
 pub mod KindLaws
 pub mod DecodedLaws
 pub mod RowLaws
-pub mod ReaderLaws
 pub mod SectionLaws
 pub mod ReadLaws

@@ -1,7 +1,7 @@
 use Rattle.std.proofs.Common.{◌≡◌, ◌+◌, ◌-◌, length, arith, sym, ap, ◌∙◌}
 use Rattle.project.specs.declared.reader.Reader.{Reader}
 use Rattle.project.specs.Readers.{width, any_bad}
-use Rattle.project.specs.ReaderLaws.{came-past, came-end}
+use Rattle.project.proofs.ReaderLaws.{came-past, came-end}
 use Rattle.project.proofs.reader.any_bad.Goals as goal
 
 pub loop-rows-smaller : goal.loop-rows-smaller

@@ -1,7 +1,7 @@
 -- `project::reader::any_bad` meets its contract. The loop's invariant: the reader is on the bytes of the section, and has come as far as `Came` says. The
 -- measure is what is left. Assumes nothing.
 use Rattle.std.proofs.Common.{◌≡◌, ◌-◌, length}
-use Rattle.project.specs.ReaderLaws.{Came}
+use Rattle.project.proofs.ReaderLaws.{Came}
 use Rattle.project.proofs.reader.any_bad.Given as goal
 
 abbrev pub invariant-loop-rows : goal.invariant-loop-rows

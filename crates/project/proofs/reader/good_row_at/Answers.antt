@@ -1,7 +1,7 @@
 -- `project::reader::good_row_at` meets its contract: the code is the definition. Assumes nothing.
 use mathlib.Core.Path.{sym, ◌∙◌}
 use Rattle.project.specs.Readers.{good_row}
-use Rattle.project.specs.ReaderLaws.{row_fits}
+use Rattle.project.proofs.ReaderLaws.{row_fits}
 use Rattle.project.proofs.reader.good_row_at.Goals as goal
 
 pub bad_row_at-requires : goal.bad_row_at-requires
