@@ -23,7 +23,7 @@ use Rattle.chunk.specs.declared.walk.Outcome.{Outcome}
 use Rattle.chunk.specs.declared.walk.Outcome.TheVariants.{WentOn, Placed}
 use Rattle.chunk.specs.Circles.{Marks, gathered_on, Gathers, Appended, CircleGathered}
 use Rattle.chunk.specs.Imports.{Members, open_imports}
-use Rattle.chunk.specs.ImportLaws.{members-most, open-outside, open-undone}
+use Rattle.chunk.proofs.ImportLaws.{members-most, open-outside, open-undone}
 use Rattle.chunk.specs.Walks.{marks_of, Grouped, Expandable, Expanded, put, no_room, Shows, Walking, Came, went_on, made-group, was-full, Behind, state_at, Undone, Importing, Circled, Leaving}
 use Rattle.chunk.specs.WalkLaws.{empty-none, empty-some}
 use Rattle.chunk.specs.RunLaws.{entry-count}

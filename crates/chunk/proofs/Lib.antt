@@ -1,2 +1,3 @@
+pub mod ImportLaws
 pub mod VisitLaws
 pub mod CameLaws

@@ -1,7 +1,6 @@
 pub mod Circles
 pub mod CircleLaws
 pub mod Imports
-pub mod ImportLaws
 pub mod LayoutLaws
 pub mod AppendLaws
 pub mod Walks

@@ -16,7 +16,8 @@ use Rattle.laws.specs.ModuleVisit.{∈-is_done, is_done-∈}
 use Rattle.laws.specs.ModuleWalk.{Grouped, groups-made}
 use Rattle.laws.proofs.Splits.{kept_rows-∈, ∈-kept_rows, once-kept_rows}
 use Rattle.laws.proofs.ModuleOrder.{InOrder, then-group, groups-in-order}
-use Rattle.laws.proofs.OrderCalls.{EachOnce, InTurn, in-turn, Rows, rows-in-turn, MayStandBefore, within-group, After, none_left, then-after, rows-after}
+use Rattle.laws.specs.OrderCalls.{EachOnce}
+use Rattle.laws.proofs.OrderCalls.{InTurn, in-turn, Rows, rows-in-turn, MayStandBefore, within-group, After, none_left, then-after, rows-after}
 use Rattle.laws.proofs.Calls.{OrderGiven}
 
 -- Groups that are in order, read from the first on: where m imports n, which does not reach m, a group that lists m comes after one that lists n.

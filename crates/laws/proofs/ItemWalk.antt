@@ -13,11 +13,11 @@ use Rattle.rules.specs.Project.{Need}
 use Rattle.rules.specs.Walk.{finished, run}
 use Rattle.rules.specs.Paths.{dependencies_of, dependants_of, DependsOn, ReachesItem}
 use Rattle.rules.specs.Items.{is_injected, may_drop, Range, in_range, range_of, numbers_of, Group, kind_of, numbers, path_holds, weight_of, same_range, starts, first_list, ItemState, item_state, has_moved, Opened, opened, with_open, find_open, is_dropped, waiting, one_by_one, preceding, after_preceding, after_open, visit_item, item_list, placed_of, item_walk, item_start}
-use Rattle.laws.specs.Lists.{◌∈◌, both, either, not-true, Tested, holds, fails, tested, ∈-left, ∈-right, ∈-self, keep-∈, ∈-keep, all_true, elem-true, elem-false, up_from-∈, ∈-up_from, Once, none, next}
-use Rattle.laws.specs.ItemWalk.{Excused, Settled}
+use Rattle.laws.specs.Lists.{◌∈◌, both, either, not-true, Tested, holds, fails, tested, ∈-left, ∈-right, ∈-self, keep-∈, ∈-keep, all_true, elem-true, elem-false, up_from-∈, ∈-up_from, none, next}
+use Rattle.laws.specs.ItemWalk.{Excused, Settled, Numbers, Walked}
 use Rattle.laws.specs.Runs.{Stopped, at-end, stopped}
 use Rattle.laws.specs.Orders.{Before, here, later, below-append, below-reverse, ends-∈, ∈-ends, keep-empty, not-fails}
-use Rattle.laws.specs.Counting.{flat_map-∈, ∈-flat_map, Below, below-nil, below-cons}
+use Rattle.laws.specs.Counting.{flat_map-∈, ∈-flat_map, below-nil, below-cons}
 use Rattle.laws.specs.PathLaws.{reaches-reverse, in_paths-sound}
 use Rattle.laws.specs.Splits.{size, WellFormed}
 use Rattle.laws.proofs.Splits.{in_range-true, numbers_of-∈, ∈-numbers_of, true-in_range, Found, found, nowhere, range_of-found, range_of-holds}
@@ -106,37 +106,33 @@ module _ (g : Group) where
         go (fails e) (holds f) (fails t) rest = rw (e, f, t, find_open) (with-tested d (rest ((x, d) ∷ moved)))
         go (fails e) (fails f) t rest = rw (e, f, find_open) (with-tested d (rest moved))
 
-  -- Lists of numbers.
-  abbrev pub Numbers : List ℕ → Type 0
-  Numbers l = Below (size g) l
-
   -- What a visit does, by its kind. `front` is what it puts on the list.
   pub data Visited : ItemState → ItemState → Type 0 where
     list-empty : {placed : List ℕ} {moved : List (ℕ × ℕ)} → Visited (item_state [] placed moved) (item_state [] placed moved)
     passed_over : {x : ℕ} {list placed : List ℕ} {moved : List (ℕ × ℕ)} → x ∈ placed
         → Visited (item_state (x ∷ list) placed moved) (item_state list placed moved)
-    put_back : {x : ℕ} {list placed : List ℕ} {moved noted : List (ℕ × ℕ)} (front : List ℕ) → Numbers front → x ∈ front
+    put_back : {x : ℕ} {list placed : List ℕ} {moved noted : List (ℕ × ℕ)} (front : List ℕ) → Numbers g front → x ∈ front
         → Visited (item_state (x ∷ list) placed moved) (item_state (front ++ list) placed noted)
-    put_in_place : {x : ℕ} {list placed : List ℕ} {moved noted : List (ℕ × ℕ)} (front : List ℕ) → Numbers front
+    put_in_place : {x : ℕ} {list placed : List ℕ} {moved noted : List (ℕ × ℕ)} (front : List ℕ) → Numbers g front
         → (x ∈ placed → ⊥) → ((d : ℕ) → DependsOn g.needs x d → Settled g placed x d)
         → Visited (item_state (x ∷ list) placed moved) (item_state (front ++ list) (x ∷ placed) noted)
 
   module _ (w : WellFormed g) where
-    waiting-below : (placed : List ℕ) (x : ℕ) → Numbers (waiting g placed x)
+    waiting-below : (placed : List ℕ) (x : ℕ) → Numbers g (waiting g placed x)
     unfolding waiting
     waiting-below placed x d m = (w.ends-below d x (dependants_of-∈ g.needs x (keep-∈ _ (dependants_of g.needs x) m).0)).0
 
-    numbers-below : (x : ℕ) → Numbers (numbers_of (range_of g.ranges x))
+    numbers-below : (x : ℕ) → Numbers g (numbers_of (range_of g.ranges x))
     numbers-below x y m =
         let e = numbers_of-∈ (range_of g.ranges x) m in
         (w.holds-uninjected (range_of g.ranges x) y (range_of-holds g.ranges x y e).0 e).0
 
-    preceding-below : (placed : List ℕ) (moved : List (ℕ × ℕ)) (x : ℕ) → Numbers (preceding g placed moved x)
+    preceding-below : (placed : List ℕ) (moved : List (ℕ × ℕ)) (x : ℕ) → Numbers g (preceding g placed moved x)
     unfolding preceding
     preceding-below placed moved x y m = numbers-below x y (keep-∈ _ (numbers_of (range_of g.ranges x)) m).0
 
     module _ (x : ℕ) (list placed : List ℕ) (moved : List (ℕ × ℕ)) (below : x < size g) (new : x ∈ placed → ⊥) where
-      after-preceding : (noted : List (ℕ × ℕ)) (before : List ℕ) → Numbers before
+      after-preceding : (noted : List (ℕ × ℕ)) (before : List ℕ) → Numbers g before
           → ((d : ℕ) → DependsOn g.needs x d → Settled g placed x d)
           → Visited (item_state (x ∷ list) placed moved) (after_preceding g x list placed noted before)
       unfolding after_preceding
@@ -154,7 +150,7 @@ module _ (g : Group) where
           staying : List ℕ
           staying = keep (λ d. not (is_dropped g x d)) dependencies
 
-          staying-below : Numbers staying
+          staying-below : Numbers g staying
           staying-below d m = (w.ends-below x d (dependencies_of-∈ g.needs x (from d (keep-∈ _ dependencies m).0))).1
 
           settled : is_empty staying ≡ true → (d : ℕ) → DependsOn g.needs x d → Settled g placed x d
@@ -177,7 +173,7 @@ module _ (g : Group) where
               (after-preceding noted (preceding g placed noted x) (preceding-below placed noted x) (settled e))
 
     -- The view: each visit of a list of numbers is one of these.
-    pub visited : (s : ItemState) → Numbers (item_list s) → Visited s (visit_item g s)
+    pub visited : (s : ItemState) → Numbers g (item_list s) → Visited s (visit_item g s)
     unfolding visit_item item_list
     visited (item_state [] placed moved) b = list-empty
     visited (item_state (x ∷ list) placed moved) b = go (tested (elem x placed))
@@ -188,18 +184,9 @@ module _ (g : Group) where
             rw (e, visit_item)
             (visited-after_open x list placed moved (b x ∈-self) (elem-false e) (find_open-opening placed x w (dependencies_of g.needs x) moved))
 
-  -- What holds after each visit: the entries of the list and the placed items are numbers, each number is placed or in the list, none is placed twice,
-  -- and each dependency of a placed number was placed before it, or the number is excused. The latest placed is first.
-  pub record Walked (s : ItemState) : Type 0 where
-    pub list-below : Numbers (item_list s)
-    pub placed_below : Numbers (placed_of s)
-    pub unplaced-listed : (x : ℕ) → x < size g → (x ∈ placed_of s) ⊎ (x ∈ item_list s)
-    pub once : Once (placed_of s)
-    pub in_order : (x d : ℕ) → x ∈ placed_of s → DependsOn g.needs x d → Before x d (placed_of s) ⊎ Excused g x d
-
   -- What holds at the end.
   pub record Placed (s : ItemState) : Type 0 where
-    pub walked : Walked s
+    pub walked : Walked g s
     pub all_placed : (x : ℕ) → x < size g → x ∈ placed_of s
 
   -- a number that is placed or in the list stays so where the front of the list does
@@ -209,7 +196,7 @@ module _ (g : Group) where
   stays f h a (inr (Memᴰ.head e)) = rw e a
   stays f h a (inr (Memᴰ.tail m)) = inr (h m)
 
-  keeps : {s t : ItemState} → Visited s t → Walked s → Walked t
+  keeps : {s t : ItemState} → Visited s t → Walked g s → Walked g t
   unfolding item_list placed_of
   keeps list-empty i = i
   keeps (passed_over m) i =
@@ -254,20 +241,20 @@ module _ (g : Group) where
         go (nowhere n c) = absurd (n r m first)
 
     -- The first list holds every number, and nothing else.
-    pub first_list-below : Numbers (first_list g)
+    pub first_list-below : Numbers g (first_list g)
     unfolding first_list starts numbers
     first_list-below = below-append start (below-append held injected)
       where
-        start : Numbers (starts g)
+        start : Numbers g (starts g)
         start x m =
             let r = Memᴰ.of_map (λ (r : Range). r.start) g.ranges m in
             let h = w.starts-below r.0 r.1 in
             omega (arith, r.2)
 
-        held : Numbers (flat_map (λ s. numbers_of (range_of g.ranges s)) (starts g))
+        held : Numbers g (flat_map (λ s. numbers_of (range_of g.ranges s)) (starts g))
         held x m = let r = flat_map-∈ (λ s. numbers_of (range_of g.ranges s)) (starts g) m in numbers-below w r.0 x r.2
 
-        injected : Numbers (keep (λ x. is_injected (kind_of g x)) (numbers g))
+        injected : Numbers g (keep (λ x. is_injected (kind_of g x)) (numbers g))
         injected x m = let h = up_from-∈ 0 (size g) (keep-∈ (λ x. is_injected (kind_of g x)) (numbers g) m).0 in omega arith
 
     pub ∈-first_list : (x : ℕ) → x < size g → x ∈ first_list g
@@ -288,7 +275,7 @@ module _ (g : Group) where
             (∈-flat_map (λ s. numbers_of (range_of g.ranges s)) (Memᴰ.map (λ (r : Range). r.start) r.1)
             (rw (range_of-start r.0 x r.1 r.2) (∈-numbers_of r.0 x r.2))))
 
-    pub walked_start : Walked (item_start g)
+    pub walked_start : Walked g (item_start g)
     unfolding item_start item_list placed_of
     walked_start =
         record {
@@ -299,16 +286,16 @@ module _ (g : Group) where
           in_order = λ x d m s. absurd (Memᴰ.not-nil m);
         }
 
-    pub walked-visit : (s : ItemState) → Walked s → Walked (visit_item g s)
+    pub walked-visit : (s : ItemState) → Walked g s → Walked g (visit_item g s)
     walked-visit s i = keeps (visited w s i.list-below) i
 
     -- Where the run of a group finishes, each number is placed once, and before one that it depends on only where it is excused.
     pub run-finished : (limit left made : ℕ) {s : ItemState} {n : ℕ} → run (item_walk g) limit left made (item_start g) ≡ finished s n → Placed s
     unfolding numbers
     run-finished limit left made {s} {n} e =
-        go (rw e at (stopped (item_walk g) limit (λ k t. Walked t) (λ k t i h. walked-visit t i) left made (item_start g) walked_start))
+        go (rw e at (stopped (item_walk g) limit (λ k t. Walked g t) (λ k t i h. walked-visit t i) left made (item_start g) walked_start))
       where
-        go : Stopped (item_walk g) limit (λ k t. Walked t) (made + left) (finished s n) → Placed s
+        go : Stopped (item_walk g) limit (λ k t. Walked g t) (made + left) (finished s n) → Placed s
         go (at-end i t b) =
             record {
               walked = i;

@@ -13,6 +13,7 @@ use Rattle.rules.specs.Modules.{is_done}
 use Rattle.rules.specs.Paths.{DependsOn, ReachesItem}
 use Rattle.rules.specs.Items.{kept_rows_of, giving_modules, given_rows, keeps_row_order, is_among, kind_at, sort_modules, sort_group}
 use Rattle.rules.specs.Calls.{continue_with, order_groups}
+use Rattle.laws.specs.OrderCalls.{EachOnce}
 use Rattle.laws.specs.Lists.{◌∈◌, next, false≢true, both, not-true, Tested, holds, fails, tested, elem-true, keep-∈, ∈-keep, reverse-∈, ∈-reverse, mem?, ∈-append, ∈-left, ∈-right, ∈-self, Once, none, once-append}
 use Rattle.laws.specs.Counting.{∈-is_empty}
 use Rattle.laws.specs.Orders.{and-true, Before, before-append, before-right, before-across, before-first}
@@ -174,9 +175,6 @@ pub record Rows (p : Project) (earlier groups : List (List ℕ)) (rows : List �
   pub kept : (row : ℕ) → row ∈ rows → Kept p row
   pub undone-before : (row : ℕ) → row ∈ rows → is_done earlier (module_of p row) ≡ false
   pub every : (row : ℕ) → Kept p row → is_done earlier (module_of p row) ≡ false → is_done groups (module_of p row) ≡ true → row ∈ rows
-
-abbrev pub EachOnce : List (List ℕ) → Type 0
-EachOnce groups = (g : List ℕ) → g ∈ groups → Once g
 
 module _ (p : Project) (limit : ℕ) where
   pub rows-in-turn : {earlier groups : List (List ℕ)} {rows : List ℕ} → EachOnce groups → InTurn p limit earlier groups rows → Rows p earlier groups rows

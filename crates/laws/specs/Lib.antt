@@ -10,6 +10,7 @@ pub mod Orders
 pub mod PathLaws
 pub mod Splits
 pub mod ItemWalk
+pub mod OrderCalls
 pub mod Sums
 pub mod ModuleOrder
 pub mod Entries

@@ -11,7 +11,7 @@ use Rattle.laws.specs.Lists.{◌∈◌, Once}
 use Rattle.laws.specs.Counting.{Below}
 use Rattle.laws.specs.Terms.{Kept, module_of}
 use Rattle.laws.specs.Accepted.{Accepted}
-use Rattle.laws.proofs.OrderCalls.{EachOnce}
+use Rattle.laws.specs.OrderCalls.{EachOnce}
 use Rattle.lists.specs.Bits.{bit}
 use Rattle.split.specs.Splits.{ModuleChains}
 use Rattle.owners.specs.Owners.{Owned, NeedsChained}

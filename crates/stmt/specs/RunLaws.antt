@@ -12,7 +12,8 @@ use Rattle.laws.specs.Lists.{◌∈◌, both, Tested, holds, fails, tested, elem
 use Rattle.laws.specs.Counting.{below_length, below-cons}
 use Rattle.laws.specs.Splits.{size}
 use Rattle.laws.specs.Runs.{run-ended, run-spent, run-full, run_on}
-use Rattle.laws.proofs.ItemWalk.{Walked, walked-visit}
+use Rattle.laws.specs.ItemWalk.{Walked}
+use Rattle.laws.proofs.ItemWalk.{walked-visit}
 use Rattle.lists.specs.Stacks.{stack}
 use Rattle.lists.specs.StackLaws.{stack-length}
 use Rattle.stmt.specs.VisitLaws.{shows-sized}

@@ -7,7 +7,7 @@ use Rattle.rules.specs.Paths.{dependencies_of, dependants_of}
 use Rattle.rules.specs.Items.{range_of, in_range, Group, kind_of, path_holds, first_list, ItemState, item_state, has_moved, Opened, opened, with_open, find_open, is_dropped, visit_item, item_list, placed_of, item_walk, item_start}
 use Rattle.rules.specs.Calls.{item_list_limit}
 use Rattle.laws.specs.Splits.{size, WellFormed}
-use Rattle.laws.proofs.ItemWalk.{Walked}
+use Rattle.laws.specs.ItemWalk.{Walked}
 use Rattle.graph.specs.Graph.{is_maybe, Chained}
 use Rattle.split.specs.declared.Split.{Split}
 use Rattle.split.specs.Shown.{Kinds, RangeIs, Ranges}

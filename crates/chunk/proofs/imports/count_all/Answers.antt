@@ -1,5 +1,5 @@
 use Rattle.std.proofs.Common.{arith, ap, length}
-use Rattle.chunk.specs.ImportLaws.{member_below, members-length, members-end, members-most}
+use Rattle.chunk.proofs.ImportLaws.{member_below, members-length, members-end, members-most}
 use Rattle.chunk.proofs.imports.count_all.Goals as goal
 
 pub count_open-n-requires-clause-m_lt_module_limit : goal.count_open-n-requires-clause-m_lt_module_limit

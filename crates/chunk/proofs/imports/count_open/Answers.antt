@@ -1,5 +1,5 @@
 use Rattle.std.proofs.Common.{arith, sym, ap, length, get_or, ◌∙◌}
-use Rattle.chunk.specs.ImportLaws.{open-met, open-passed, open-end, open-most, next-most, next-less}
+use Rattle.chunk.proofs.ImportLaws.{open-met, open-passed, open-end, open-most, next-most, next-less}
 use Rattle.chunk.proofs.imports.count_open.Goals as goal
 use Rattle.chunk.proofs.imports.count_open.Goals.{then-is_open, else-is_open}
 

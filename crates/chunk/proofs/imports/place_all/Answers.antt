@@ -1,6 +1,6 @@
 use Rattle.std.proofs.Common.{arith}
 use Rattle.lists.specs.StackLaws.{placing-rest, placing-end}
-use Rattle.chunk.specs.ImportLaws.{member_below, place-room, place-next, members-end}
+use Rattle.chunk.proofs.ImportLaws.{member_below, place-room, place-next, members-end}
 use Rattle.chunk.proofs.imports.place_all.Goals as goal
 
 pub place_open-at-requires-clause-m_lt_module_limit : goal.place_open-at-requires-clause-m_lt_module_limit

@@ -1,6 +1,6 @@
 use Rattle.std.proofs.Common.{arith, sym, ◌<◌, ◌∙◌}
 use Rattle.lists.specs.StackLaws.{placing-rest, placing-one, placing-end}
-use Rattle.chunk.specs.ImportLaws.{open-met, open-passed, open-end, next-most, next-less}
+use Rattle.chunk.proofs.ImportLaws.{open-met, open-passed, open-end, next-most, next-less}
 use Rattle.chunk.proofs.imports.place_open.Goals as goal
 use Rattle.chunk.proofs.imports.place_open.Goals.{then-is_open, else-is_open, Then-is_open}
 

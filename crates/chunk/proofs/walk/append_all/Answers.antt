@@ -1,7 +1,7 @@
 use Rattle.std.proofs.Common.{arith, ◌+◌, drop, get_or, length-take-le}
 use Rattle.chunk.specs.Circles.{gathered_on}
 use Rattle.chunk.specs.Imports.{open_of, open_imports}
-use Rattle.chunk.specs.ImportLaws.{members_step, members-end}
+use Rattle.chunk.proofs.ImportLaws.{members_step, members-end}
 use Rattle.chunk.specs.AppendLaws.{appending-start, appending-rest, appending-more, appending-end, member-kept, kept-below}
 use Rattle.chunk.proofs.walk.append_all.Goals as goal
 

@@ -1,6 +1,6 @@
 use Rattle.std.proofs.Common.{arith, sym, ◌∙◌, ◌-◌, [], ◌∷◌, get_or}
 use Rattle.chunk.specs.Imports.{open_from, open_of}
-use Rattle.chunk.specs.ImportLaws.{open-met, open-passed, open-end, next-most, next-less}
+use Rattle.chunk.proofs.ImportLaws.{open-met, open-passed, open-end, next-most, next-less}
 use Rattle.chunk.specs.AppendLaws.{appending-start, appending-rest, appending-more, appending-end}
 use Rattle.chunk.proofs.walk.append_open.Goals as goal
 use Rattle.chunk.proofs.walk.append_open.Goals.{then-is_open, else-is_open}
