@@ -5,7 +5,7 @@
 
 pub mod text;
 
-ghost use Rattle.std.specs.Prelude.{◌+◌, ◌≤◌, length};
+ghost use Rattle.std.specs.Prelude.{◌≡◌, ◌+◌, ◌≤◌, ◌↔◌, ◌⊎◌, length, take, replicate, slice_get, IsSome};
 
 use sort::{entry, groups_entry};
 use text::{Pieces, value_of};
@@ -47,7 +47,9 @@ enum Entry {
 
 impl Entry {
     // The entry that a line's first letter names.
-    fn named(letter: u8) -> Option<Self> {
+    fn named(letter: u8) -> Option<Self>
+        ensures { IsSome result ↔ ((letter ≡ 103) ⊎ (letter ≡ 111)) }
+    {
         match letter {
             b'g' => Some(Entry::Groups),
             b'o' => Some(Entry::Order),
@@ -74,8 +76,10 @@ pub struct Call<'a> {
 }
 
 impl<'a> Call<'a> {
-    // None where the line names no entry.
-    pub fn read(line: &'a [u8]) -> Option<Self> {
+    // None where the line names no entry: its first letter is neither a `g` nor an `o`.
+    pub fn read(line: &'a [u8]) -> Option<Self>
+        ensures { IsSome result ↔ ((slice_get line.now 0 ≡ Some 103) ⊎ (slice_get line.now 0 ≡ Some 111)) }
+    {
         let entry = Entry::named(*line.first()?)?;
         let mut words = Pieces::new(line, b' ');
         words.next();
@@ -108,7 +112,9 @@ pub struct Arrays {
 }
 
 impl Arrays {
-    pub fn new() -> Self {
+    pub fn new() -> Self
+        ensures { (result.reply ≡ replicate 4200 170) × (result.report ≡ replicate 40 170) }
+    {
         Arrays {
             reply: [UNTOUCHED; 4200],
             report: [UNTOUCHED; 40],
@@ -116,7 +122,9 @@ impl Arrays {
     }
 
     // The arrays after a call that has written these words to the reply and to the report.
-    pub fn written(reply: &[u8], report: &[u8]) -> Self {
+    pub fn written(reply: &[u8], report: &[u8]) -> Self
+        ensures { (take 2 result.reply ≡ replicate 2 170) × (take 2 result.report ≡ replicate 2 170) }
+    {
         let mut arrays = Arrays::new();
         bytes_of(Pieces::new(reply, b' '), &mut arrays.reply[AROUND..]);
         bytes_of(Pieces::new(report, b' '), &mut arrays.report[AROUND..]);
@@ -124,7 +132,9 @@ impl Arrays {
     }
 
     // Makes a call. What reply and report hold then is left free.
-    pub fn run(&mut self, call: Call) -> Returned {
+    pub fn run(&mut self, call: Call) -> Returned
+        ensures { (length result.reply.now ≤ 4200) × (length result.report.now ≤ 40) }
+    {
         self.reply.fill(UNTOUCHED);
         self.report.fill(UNTOUCHED);
         let mut project = [0u8; 8300];

@@ -1,22 +1,21 @@
 // Reading texts that a byte parts into pieces: an input's lines, a line's words.
-ghost use Rattle.std.specs.Prelude.{◌<◌, length, OnSome};
+ghost use Rattle.std.specs.Prelude.{◌≡◌, ◌<◌, length, OnSome};
 ghost use Rattle.std.specs.Iterator.{at_most};
 
 // The pieces of a text, each ended by a byte or by the text's end. (`split` would give one more behind the last byte.)
 #[derive(Clone, Copy)]
 pub struct Pieces<'a> {
-    rest: &'a [u8],
+    // What was not read yet.
+    pub rest: &'a [u8],
     end: u8,
 }
 
 impl<'a> Pieces<'a> {
-    pub fn new(text: &'a [u8], end: u8) -> Self {
+    pub fn new(text: &'a [u8], end: u8) -> Self
+        ensures whole { result.rest.now ≡ text.now }
+        ensures by { result.end ≡ end }
+    {
         Pieces { rest: text, end }
-    }
-
-    // What was not read yet.
-    pub fn rest(self) -> &'a [u8] {
-        self.rest
     }
 }
 

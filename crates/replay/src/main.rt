@@ -32,7 +32,7 @@ impl<'a> Stored<'a> {
             call,
             number: number.next().map_or(0, value_of),
             reply,
-            report: parts.rest(),
+            report: parts.rest,
         })
     }
 
