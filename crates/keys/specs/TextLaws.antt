@@ -1,7 +1,7 @@
 -- Laws of the texts that a key is made of. Assumes nothing.
 use Rattle.std.specs.Prelude.{ℕ, zero, suc, ◌+◌, ◌^◌, ◌<◌, ◌≡◌, refl, List, [], ◌∷◌, ◌++◌, length, get_or, take}
 use Rattle.std.specs.Fmt.{decimal as written}
-use Rattle.std.proofs.Common.{arith, lit<, sym, ap, ◌∙◌, subst, eq-eqb, ne_eqb}
+use Rattle.std.proofs.Common.{arith, lit<, sym, ap, ◌∙◌, subst, length-append, eq-eqb, ne_eqb}
 use Rattle.std.proofs.lemmas.List.{take_more, flat_map_more}
 use mathlib.Core.List.{flat_map as flatten_by, append_assoc, append-nil}
 use Rattle.rules.specs.Calls.{Answer}
@@ -19,34 +19,56 @@ behind-more text front l i {n} h same d e f =
     (append_assoc (front ++ behind_by text (take i l)) (blank ∷ []) (text n) ∙ flat_map_more (λ m. blank ∷ text m) front (take i l) n)
 
 -- Numbers that a machine can hold.
-abbrev pub Fitting : List ℕ → Type 0
-Fitting l = (i : ℕ) → get_or l i 0 < 2 ^ 64
+abbrev pub Fits64 : List ℕ → Type 0
+Fits64 l = (i : ℕ) → get_or l i 0 < 2 ^ 64
 
-fit-none : Fitting []
+fit-none : Fits64 []
 fit-none zero = lit< tt
 fit-none (suc i) = lit< tt
 
-fit-cons : {n : ℕ} (l : List ℕ) → n < 2 ^ 64 → Fitting l → Fitting (n ∷ l)
+fit-cons : {n : ℕ} (l : List ℕ) → n < 2 ^ 64 → Fits64 l → Fits64 (n ∷ l)
 fit-cons l h fits zero = h
 fit-cons l h fits (suc i) = fits i
 
-pub behind-written : (l : List ℕ) → Fitting l → behind_by written l ≡ behind l
+pub behind-written : (l : List ℕ) → Fits64 l → behind_by written l ≡ behind l
 unfolding behind flatten_by
 behind-written [] h = refl
 behind-written (n ∷ l) h = rw (decimal-written n (h 0), behind-written l (λ i. h (suc i))) refl
 
+-- Numbers behind blanks.
+behind-append : (a b : List ℕ) → behind (a ++ b) ≡ behind a ++ behind b
+unfolding behind flatten_by
+behind-append [] b = refl
+behind-append (n ∷ a) b = ap (λ (l : List ℕ). blank ∷ l) (rw (behind-append a b) (sym (append_assoc (decimal n) (behind a) (behind b))))
+
+behind-one : (n : ℕ) → behind (n ∷ []) ≡ blank ∷ decimal n
+unfolding behind flatten_by
+behind-one n = append-nil (blank ∷ decimal n)
+
+pub behind-length : (n : ℕ) (l : List ℕ) → length (behind (n ∷ l)) ≡ length (decimal n) + length (behind l) + 1
+behind-length n l = ap length (behind-append (n ∷ []) l) ∙ rw (behind-one n) (omega (arith, length-append (blank ∷ decimal n) (behind l)))
+
+pub behind-four-length : (a b c d : ℕ)
+    → length (behind (a ∷ b ∷ c ∷ d ∷ [])) ≡ length (decimal a) + length (decimal b) + length (decimal c) + length (decimal d) + 4
+behind-four-length a b c d =
+    omega (arith, behind-length a (b ∷ c ∷ d ∷ []), behind-length b (c ∷ d ∷ []), behind-length c (d ∷ []), ap length (behind-one d))
+
 -- The lines of a key, put behind one another.
-pub separated-put : (rows : List ℕ) → Fitting rows → {n : ℕ} {l : List ℕ} → rows ≡ n ∷ l → (front : List ℕ) {one two : List ℕ} → one ≡ front ++ written n
+pub separated-put : (rows : List ℕ) → Fits64 rows → {n : ℕ} {l : List ℕ} → rows ≡ n ∷ l → (front : List ℕ) {one two : List ℕ} → one ≡ front ++ written n
     → two ≡ one ++ behind_by written l → two ≡ front ++ separated rows
 unfolding separated
 separated-put rows h {n} {l} whole front e f =
-    let fits : Fitting (n ∷ l) = subst Fitting whole h in
+    let fits : Fits64 (n ∷ l) = subst Fits64 whole h in
     rw (f, e, whole, decimal-written n (fits 0), behind-written l (λ i. fits (suc i))) (append_assoc front (decimal n) (behind l))
 
 pub separated-nothing : (rows : List ℕ) → length rows ≡ 0 → (front : List ℕ) → front ≡ front ++ separated rows
 unfolding separated
 separated-nothing [] e front = sym (append-nil front)
 separated-nothing (n ∷ rows) e front = absurd (omega arith)
+
+pub no_length : (n : ℕ) → length (no_text n) ≡ length (decimal n) + 4
+unfolding no_text
+no_length n = omega (arith, length-append (behind (n ∷ [])) (line_end ∷ []), ap length (behind-one n))
 
 pub no-put : (n : ℕ) → n < 2 ^ 64 → {none one two three : List ℕ} → none ≡ [] → one ≡ none ++ no_word → two ≡ one ++ behind_by written (n ∷ [])
     → three ≡ two ++ (line_end ∷ []) → three ≡ no_text n
@@ -58,6 +80,16 @@ no-put n h {one = one} {two = two} d e f g =
 module _ (a : Answer) where
   abbrev pub counts : List ℕ
   counts = a.kept ∷ a.groups ∷ a.module_visits ∷ a.item_visits ∷ []
+
+  pub ok-length : length (ok_text a) ≡ length (behind counts) + length (separated a.written) + 4
+  unfolding ok_text
+  ok-length =
+      omega (
+        arith,
+        length-append (ok_word ++ (behind counts ++ (line_end ∷ []))) (separated a.written ++ (line_end ∷ [])),
+        length-append (behind counts) (line_end ∷ []),
+        length-append (separated a.written) (line_end ∷ []),
+      )
 
   pub ok-put : a.kept < 2 ^ 64 → a.groups < 2 ^ 64 → a.module_visits < 2 ^ 64 → a.item_visits < 2 ^ 64 → {none one two three four five : List ℕ}
       → none ≡ [] → one ≡ none ++ ok_word → two ≡ one ++ behind_by written counts → three ≡ two ++ (line_end ∷ [])
