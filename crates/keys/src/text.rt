@@ -1,4 +1,5 @@
-// The text of a key, in memory of its own. Each function puts its text behind what stands there.
+// The text of a key, in memory of its own. Each function puts its text behind what stands there. It is no `Display`, since a formatter may fail, and
+// a key never does.
 ghost use Rattle.std.specs.Prelude.{◌≡◌, [], ◌++◌, ◌+◌, ◌*◌, ◌≤◌, length};
 ghost use Rattle.rules.specs.Project.{item_limit};
 ghost use Rattle.rules.specs.Keys.{separated, ok_text, no_text, key_of};

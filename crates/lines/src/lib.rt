@@ -16,6 +16,13 @@ const AROUND: usize = 2;
 // What every byte of the arrays is before a call.
 const UNTOUCHED: u8 = 170;
 
+// The bytes of the arrays.
+const PROJECT: usize = 8300;
+
+const REPLY: usize = 4200;
+
+const REPORT: usize = 40;
+
 // The bytes of the words; how many. Which bytes they are is left free: what a test program reads is seen in what it prints.
 fn bytes_of(mut words: Pieces, out: &mut [u8]) -> usize
     ensures { result ≤ length out.new }
@@ -107,23 +114,23 @@ pub struct Returned<'a> {
 // The arrays that reply and report are parts of.
 #[derive(PartialEq, Drop)]
 pub struct Arrays {
-    reply: [u8; 4200],
-    report: [u8; 40],
+    reply: [u8; REPLY],
+    report: [u8; REPORT],
 }
 
 impl Arrays {
     pub fn new() -> Self
-        ensures { (result.reply ≡ replicate 4200 170) × (result.report ≡ replicate 40 170) }
+        ensures { (result.reply ≡ replicate REPLY 170) × (result.report ≡ replicate REPORT 170) }
     {
         Arrays {
-            reply: [UNTOUCHED; 4200],
-            report: [UNTOUCHED; 40],
+            reply: [UNTOUCHED; REPLY],
+            report: [UNTOUCHED; REPORT],
         }
     }
 
     // The arrays after a call that has written these words to the reply and to the report.
     pub fn written(reply: &[u8], report: &[u8]) -> Self
-        ensures { (take 2 result.reply ≡ replicate 2 170) × (take 2 result.report ≡ replicate 2 170) }
+        ensures { (take AROUND result.reply ≡ replicate AROUND 170) × (take AROUND result.report ≡ replicate AROUND 170) }
     {
         let mut arrays = Arrays::new();
         bytes_of(Pieces::new(reply, b' '), &mut arrays.reply[AROUND..]);
@@ -133,11 +140,11 @@ impl Arrays {
 
     // Makes a call. What reply and report hold then is left free.
     pub fn run(&mut self, call: Call) -> Returned
-        ensures { (length result.reply.now ≤ 4200) × (length result.report.now ≤ 40) }
+        ensures { (length result.reply.now ≤ REPLY) × (length result.report.now ≤ REPORT) }
     {
         self.reply.fill(UNTOUCHED);
         self.report.fill(UNTOUCHED);
-        let mut project = [0u8; 8300];
+        let mut project = [0u8; PROJECT];
         let n = bytes_of(call.project, &mut project);
         let reply_end = AROUND + length_of(call.reply, &self.reply);
         let report_end = AROUND + length_of(call.report, &self.report);

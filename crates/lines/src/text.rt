@@ -43,7 +43,7 @@ impl<'a> Iterator for Pieces<'a> {
     }
 }
 
-// The value of a digit in base 16; 0 for any other byte, a capital letter too.
+// The value of a digit in base 16; 0 for any other byte, also for capital letters, which `to_digit` would read.
 fn digit(byte: u8) -> u8
     ensures { result < 16 }
 {

@@ -83,9 +83,7 @@ fn replay_input<const LIMIT: usize>(rt: &impl Print, input: &mut impl Read) -> i
     let mut read = [0u8; LIMIT];
     let n = read_full(input, &mut read)?;
     let count = replay_lines(rt, Pieces::new(&read[..n], b'\n'))?;
-    let calls = count.calls;
-    let differ = count.differ;
-    println!(rt; "{calls} calls, {differ} differ")
+    println!(rt; "{} calls, {} differ", count.calls, count.differ)
 }
 
 fn main(rt: HostRuntime) -> io::Result<()> {

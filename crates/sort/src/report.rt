@@ -36,7 +36,7 @@ pub fn enter<C: Call>(project: &[u8], reply: &mut [u8], report: &mut [u8], allow
 }
 
 impl Numbers {
-    // Writes the five numbers to the front of a report.
+    // Writes the five numbers to the front of a report. One line for each: of what a loop over `chunks_exact_mut` writes nothing would be known.
     fn write(self, report: &mut [u8])
         requires { 20 ≤ length report.old }
         ensures { (a : Answer) → self ≡ numbers_of a → report.new ≡ overwrite (report_bytes a) report.old }
