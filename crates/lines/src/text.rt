@@ -32,13 +32,8 @@ impl<'a> Iterator for Pieces<'a> {
         }
         let end = self.end;
         let at = self.rest.iter().position(|byte| *byte == end);
-        let Some(at) = at else {
-            let last = self.rest;
-            self.rest = &[];
-            return Some(last);
-        };
-        let piece = &self.rest[..at];
-        self.rest = &self.rest[at + 1..];
+        let (piece, behind) = self.rest.split_at(at.unwrap_or(self.rest.len()));
+        self.rest = behind.get(1..).unwrap_or(b"");
         Some(piece)
     }
 }
