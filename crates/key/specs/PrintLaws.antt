@@ -1,5 +1,5 @@
 -- Laws for the proof of the program. Assumes nothing.
-use Rattle.std.specs.Prelude.{ℕ, ◌≤◌, ◌≡◌, refl, List, Result, Ok, Err, IsOk, length, take, drop}
+use Rattle.std.specs.Prelude.{ℕ, ◌≤◌, ◌≡◌, refl, List, Result, Ok, IsOk, length, take, drop}
 use Rattle.std.proofs.Common.{arith, sym, ap, ◌∙◌, take_at, length-append}
 use Rattle.rules.specs.Calls.{overwrite}
 use Rattle.rules.specs.Keys.{key_text, printed}
