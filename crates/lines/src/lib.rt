@@ -24,7 +24,7 @@ const REPLY: usize = 4200;
 const REPORT: usize = 40;
 
 // The bytes of the words; how many. Which bytes they are is left free: what a test program reads is seen in what it prints.
-fn bytes_of(mut words: Pieces, out: &mut [u8]) -> usize
+fn bytes_of(mut words: Pieces<'_>, out: &mut [u8]) -> usize
     ensures { result ≤ length out.new }
 {
     for (n, place) in out.iter_mut().enumerate() {
@@ -72,7 +72,7 @@ impl Entry {
     }
 }
 
-// A call, as a line writes it.
+// A call, as a line writes it: the entry, the lengths of reply and report, the allowance, and the words of the project.
 #[derive(Clone, Copy)]
 pub struct Call<'a> {
     entry: Entry,
@@ -139,7 +139,7 @@ impl Arrays {
     }
 
     // Makes a call. What reply and report hold then is left free.
-    pub fn run(&mut self, call: Call) -> Returned
+    pub fn run(&mut self, call: Call<'_>) -> Returned<'_>
         ensures { (length result.reply.now ≤ REPLY) × (length result.report.now ≤ REPORT) }
     {
         self.reply.fill(UNTOUCHED);

@@ -58,7 +58,7 @@ fn replay_line(line: &[u8], arrays: &mut Arrays) -> Option<bool> {
     }
 }
 
-fn replay_lines(rt: &impl Print, lines: Pieces) -> io::Result<Count> {
+fn replay_lines(rt: &impl Print, lines: Pieces<'_>) -> io::Result<Count> {
     let mut count = Count::default();
     let mut arrays = Arrays::new();
     for line in lines {

@@ -20,7 +20,7 @@ fn print_bytes(rt: &impl Print, bytes: &[u8]) -> io::Result<()> {
 }
 
 // Makes a call and prints its number, the reply and the report.
-fn run_call(rt: &impl Print, call: Call, arrays: &mut Arrays) -> io::Result<()> {
+fn run_call(rt: &impl Print, call: Call<'_>, arrays: &mut Arrays) -> io::Result<()> {
     let answer = arrays.run(call);
     print!(rt; " {} :", answer.number)?;
     print_bytes(rt, answer.reply)?;
