@@ -2,9 +2,9 @@
 use Rattle.std.specs.Prelude.{ℕ, ◌≤◌, ◌≡◌, List, length, take}
 use Rattle.rules.specs.Keys.{key_text, key_input_limit, printed}
 
--- The first `n` bytes of `read` are the bytes read, and the first `end` of `text` those to print: the key of the bytes read; and where these are the
--- input's first 8,229, or all of a shorter one, what the paper prints for that input.
-pub record Prints (read : List ℕ) (n : ℕ) (text : List ℕ) (end : ℕ) : Type 0 where
+-- The first `end` bytes of `text` are those to print: the key of the bytes read; and where these are the input's first 8,229, or all of a shorter one,
+-- what the paper prints for that input.
+pub record Prints (read text : List ℕ) (end : ℕ) : Type 0 where
   pub within : end ≤ length text
-  pub key : take end text ≡ key_text (take n read)
-  pub paper : (input : List ℕ) → take n read ≡ take key_input_limit input → take end text ≡ printed input
+  pub key : take end text ≡ key_text read
+  pub paper : (input : List ℕ) → read ≡ take key_input_limit input → take end text ≡ printed input

@@ -9,26 +9,19 @@ ghost use Rattle.keys.specs.Texts.{key_text_limit};
 ghost use Rattle.key.specs.Prints.{Prints};
 
 use input::read_full;
-use keys::Rendered;
 use std::io;
 use std::io::{Read, Write};
 
 // The bytes that are read at most.
 const INPUT_LIMIT: usize = 8229;
 
-// Writes what is to be printed for the first n bytes of `read`; how many bytes that are.
-fn text_of(read: &[u8], n: usize, text: &mut [u8]) -> usize
-    requires read_len { length read.now ≡ key_input_limit }
-    requires n_in_bounds { n ≤ length read.now }
-    requires key_text_limit_in_bounds { key_text_limit ≤ length text.old }
-    ensures { Prints read.now n text.new result }
+// Writes what is to be printed for the bytes read; how many bytes that are.
+fn text_of(read: &[u8], text: &mut [u8]) -> usize
+    requires { key_text_limit ≤ length text.old }
+    ensures { Prints read.now text.new result }
 {
-    let rendered = keys::render(&read[..n], text);
-    // It is never too short, which the proof of this return shows.
-    let Rendered::Written(end) = rendered else {
-        return 0;
-    };
-    end
+    // It is never too short.
+    keys::render(read, text).unwrap()
 }
 
 // Reads at most 8,229 bytes and writes their key. Where it is known which bytes are to come, these are those that the paper prints for that input; which
@@ -40,7 +33,7 @@ fn print_key<R: Read, W: Write>(input: &mut R, output: &mut W) -> io::Result<()>
     let mut read = [0u8; INPUT_LIMIT];
     let mut text = [0u8; keys::TEXT_LIMIT];
     let n = read_full(input, &mut read)?;
-    let end = text_of(&read, n, &mut text);
+    let end = text_of(&read[..n], &mut text);
     output.write_all(&text[..end])
 }
 

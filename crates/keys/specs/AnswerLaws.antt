@@ -1,11 +1,6 @@
 -- The answer of an order call, read off the numbers returned and the reply. Assumes nothing.
-use Rattle.std.specs.Prelude.{ℕ, ◌≤◌, ◌<◌, ◌≡◌, List, ◌++◌, ltb, take, drop}
-use native.Mathlib.Omega.{arith}
-use Rattle.std.proofs.Common.{zero-add, sym, ap, ◌∙◌, take_at}
-use Rattle.std.proofs.Math.Path.{refl}
-use Rattle.std.proofs.Math.ListN.{length}
-use Rattle.std.proofs.lemmas.List.Edits.{sets, sets-eq}
-use borrow.Author.Tests.{lt-ltb, le-ltb}
+use Rattle.std.specs.Prelude.{ℕ, ◌≤◌, ◌<◌, ◌≡◌, refl, List, ◌++◌, Result, Ok, Err, ltb, length, take, drop}
+use Rattle.std.proofs.Common.{arith, sym, take_at, lt-ltb, le-ltb}
 use Rattle.rules.specs.Project.{Project, Reading, refused, accepted, read, item_limit}
 use Rattle.rules.specs.Walk.{Stop, finished, spent, full}
 use Rattle.rules.specs.Modules.{ModuleState, groups_of, run_modules}
@@ -17,10 +12,9 @@ use Rattle.laws.proofs.Calls.{order-short, order-long, order-of, call-given}
 use Rattle.laws.proofs.GivenOrders.{kept-count}
 use Rattle.sort.specs.declared.Numbers.{Numbers}
 use Rattle.sort.specs.Answers.{Answered}
-use Rattle.keys.specs.declared.Rendered.{Rendered}
-use Rattle.keys.specs.declared.Rendered.TheVariants.{Written, TooShort}
+use Rattle.keys.specs.declared.TooShort.{TooShort}
 use Rattle.rules.specs.Keys.{key_of, key_allowance, key_text}
-use Rattle.keys.specs.Texts.{key_text_limit, answer_of, Put, rendered, rendered_bytes, Renders}
+use Rattle.keys.specs.Texts.{key_text_limit, answer_of, rendered, rendered_bytes, Renders}
 
 -- An answer is a refusal, or an order is given.
 data Kind : Answer → Type 0 where
@@ -76,37 +70,30 @@ answer-read bytes space allowance {before} {after} {r} h =
     take_at a.written (drop (length a.written) before) a.kept (sym (written-kept bytes space allowance)) in
     rw (h.numbers, h.reply, rows) refl
 
--- A text that was measured, and put at the front of a slice that is long enough for it.
-front : (text l : List ℕ) → length text ≤ length l → sets l 0 text ≡ overwrite text l
-unfolding overwrite
-front text l h = rw zero-add at (sets-eq text l 0 (omega arith))
-
-module _ (text before : List ℕ) {m o : List ℕ} {n : ℕ} (measured : Put text m 0 o n) where
-  pub renders-short : length before < n → Renders text before before (TooShort n)
+-- A text of n bytes, and a slice that is too short for it, or long enough.
+module _ (text before : List ℕ) {n : ℕ} (size : n ≡ length text) where
+  pub renders-short : length before < n → Renders text before before (Err (record { length = n }))
   unfolding rendered rendered_bytes
   renders-short h =
-      let size : n ≡ length text = omega (arith, measured.ends) in
-      let short = lt-ltb (length before) (length text) (omega arith) in
-      record { answer = rw (short, rendered) (ap TooShort size); bytes = rw (short, rendered_bytes) refl }
+      let short = lt-ltb (length before) (length text) (omega (arith, size)) in
+      record { answer = rw (short, rendered, size) refl; bytes = rw (short, rendered_bytes) refl }
 
-  pub renders-written : {after : List ℕ} {k : ℕ} → n ≤ length before → Put text before 0 after k → Renders text before after (Written n)
-  unfolding rendered rendered_bytes
-  renders-written h p =
-      let size : n ≡ length text = omega (arith, measured.ends) in
-      let room : length text ≤ length before = omega arith in
-      let long = le-ltb (length before) (length text) room in
-      record { answer = rw (long, rendered) (ap Written size); bytes = rw (long, rendered_bytes) (p.bytes ∙ front text before room) }
+  pub renders-written : {copied : List ℕ} → n ≤ length before → copied ≡ text → Renders text before (copied ++ drop n before) (Ok n)
+  unfolding rendered rendered_bytes overwrite
+  renders-written h e =
+      let long = le-ltb (length before) (length text) (omega (arith, size)) in
+      record { answer = rw (long, rendered, size) refl; bytes = rw (long, rendered_bytes, e, size) refl }
 
 -- From the text of the answer that was read to the key of the project.
-pub key-rendered : (bytes : List ℕ) {before after out left : List ℕ} {r : Numbers} {n : Rendered} → Answered (order_call bytes item_limit key_allowance) before after r
+pub key-rendered : (bytes : List ℕ) {before after out left : List ℕ} {r : Numbers} {n : Result ℕ TooShort} → Answered (order_call bytes item_limit key_allowance) before after r
     → Renders (key_of (answer_of r (take r.kept after))) out left n × (length (key_of (answer_of r (take r.kept after))) ≤ key_text_limit)
     → Renders (key_text bytes) out left n × (length (key_text bytes) ≤ key_text_limit)
 unfolding key_text
 key-rendered bytes h k = let e = answer-read bytes item_limit key_allowance h in (rw e at k.0, rw e at k.1)
 
 -- A slice that is long enough has the text in front.
-pub renders-long : (text : List ℕ) {before after : List ℕ} {r : Rendered} → Renders text before after r → length text ≤ length before
-    → (r ≡ Written (length text)) × (after ≡ overwrite text before)
+pub renders-long : (text : List ℕ) {before after : List ℕ} {r : Result ℕ TooShort} → Renders text before after r → length text ≤ length before
+    → (r ≡ Ok (length text)) × (after ≡ overwrite text before)
 unfolding rendered rendered_bytes
 renders-long text {before} k h =
     let long = le-ltb (length before) (length text) h in

@@ -1,6 +1,8 @@
 -- Laws of decimal digits. Assumes nothing.
 use Rattle.std.specs.Prelude.{ℕ, zero, suc, ◌+◌, ◌*◌, ◌/◌, ◌%◌, ◌^◌, ◌≤◌, ◌<◌, ◌≡◌, refl, true, false, List, [], ◌∷◌, ◌++◌, ltb, length}
 use Rattle.std.proofs.Common.{arith, pow-suc, sym, ap, ◌∙◌, length-append, lt-ltb, le-ltb, ltb-true, ltb-false}
+use Rattle.std.specs.Fmt.{decimal as written}
+use Rattle.std.proofs.lemmas.Fmt.{decimal_by_steps}
 use Rattle.laws.specs.Lists.{Tested, holds, fails, tested}
 use Rattle.rules.specs.Keys.{digit, digits_within, decimal}
 
@@ -52,3 +54,9 @@ decimal-most (suc k) n h = go (tested (ltb n 10)) (decimal-most k (n / 10))
         let large = ltb-false n 10 e in
         let below : n < 10 ^ suc k * 10 = rw pow-suc at h in
         omega (arith, length-large n large, more (omega arith))
+
+-- The digits that the library writes of a number of 64 bits are the paper's.
+pub decimal-written : (n : ℕ) → n < 2 ^ 64 → written n ≡ decimal n
+decimal-written =
+    decimal_by_steps (λ n ds. ds ≡ decimal n) (λ n h. sym (decimal-small n h))
+    (λ n ds h e. ap (λ (l : List ℕ). l ++ (digit (n % 10) ∷ [])) e ∙ sym (decimal-large n h))

@@ -1,61 +1,48 @@
--- Laws of texts put into a slice, and of their lengths. Assumes nothing.
-use Rattle.std.specs.Prelude.{ℕ, zero, suc, ◌+◌, ◌-◌, ◌/◌, ◌%◌, ◌≤◌, ◌<◌, ◌≡◌, refl, length, get_or, set, take, drop}
-use native.Mathlib.Omega.{arith}
-use Rattle.std.proofs.Common.{add-zero, add-one, sym, ap, ◌∙◌, take-append-drop, take-suc, eq-eqb, ne_eqb}
-use mathlib.Core.List.{List, [], ◌∷◌, ◌++◌, flat_map, append_assoc, append-nil}
-use Rattle.std.proofs.Math.ListN.{length-append}
-use Rattle.std.proofs.lemmas.List.Edits.{sets}
-use Rattle.std.proofs.Math.Seq.{length-sets, take-length}
+-- Laws of the texts that a key is made of. Assumes nothing.
+use Rattle.std.specs.Prelude.{ℕ, zero, suc, ◌+◌, ◌^◌, ◌<◌, ◌≡◌, refl, List, [], ◌∷◌, ◌++◌, length, get_or, take}
+use Rattle.std.specs.Fmt.{decimal as written}
+use Rattle.std.proofs.Common.{arith, lit<, sym, ap, ◌∙◌, subst, length-append, eq-eqb, ne_eqb}
+use Rattle.std.proofs.lemmas.List.{take_more, flat_map_more}
+use mathlib.Core.List.{flat_map as flatten_by, append_assoc, append-nil}
 use Rattle.rules.specs.Calls.{Answer}
-use Rattle.rules.specs.Keys.{blank, line_end, ok_word, no_word, digit, decimal, behind, separated, ok_text, no_text, key_of}
-use Rattle.keys.specs.Texts.{Put}
-use Rattle.keys.specs.DecimalLaws.{decimal-small, decimal-large}
+use Rattle.rules.specs.Keys.{blank, line_end, ok_word, no_word, decimal, behind, separated, ok_text, no_text, key_of}
+use Rattle.keys.specs.Texts.{behind_by}
+use Rattle.keys.specs.DecimalLaws.{decimal-written}
 
-set_beyond : (l : List ℕ) (i v : ℕ) → length l ≤ i → set l i v ≡ l
-set_beyond [] i v h = refl
-set_beyond (x ∷ l) zero v h = absurd (omega arith)
-set_beyond (x ∷ l) (suc i) v h = ap (λ (m : List ℕ). x ∷ m) (set_beyond l i v (omega arith))
+-- The texts of the first i numbers, and one more.
+pub behind-more : {N : Type 0} (text : N → List ℕ) (front : List ℕ) (l : List N) (i : ℕ) {n : N} → i < length l → n ≡ get_or l i n
+    → {now one two : List ℕ} → now ≡ front ++ behind_by text (take i l) → one ≡ now ++ (blank ∷ []) → two ≡ one ++ text n
+    → two ≡ front ++ behind_by text (take (i + 1) l)
+behind-more text front l i {n} h same d e f =
+    let more : take (i + 1) l ≡ take i l ++ (n ∷ []) = take_more l i n h ∙ ap (λ m. take i l ++ (m ∷ [])) (sym same) in
+    rw (f, e, d, more)
+    (append_assoc (front ++ behind_by text (take i l)) (blank ∷ []) (text n) ∙ flat_map_more (λ m. blank ∷ text m) front (take i l) n)
 
-sets-append : (l : List ℕ) (i : ℕ) (a b : List ℕ) → sets l i (a ++ b) ≡ sets (sets l i a) (i + length a) b
-sets-append l i [] b = ap (λ (k : ℕ). sets l k b) (sym (add-zero i))
-sets-append l i (x ∷ a) b =
-    let e : suc i + length a ≡ i + suc (length a) = omega arith in
-    rw (sym e) (sets-append (set l i x) (suc i) a b)
+-- Numbers that a machine can hold.
+abbrev pub Fits64 : List ℕ → Type 0
+Fits64 l = (i : ℕ) → get_or l i 0 < 2 ^ 64
 
-pub put-nothing : (l : List ℕ) (at : ℕ) → Put [] l at l at
-put-nothing l at = record { bytes = refl; ends = omega arith }
+fit-none : Fits64 []
+fit-none zero = lit< tt
+fit-none (suc i) = lit< tt
 
--- One text, and another behind it.
-pub put_then : {a b l m n : List ℕ} {i j k : ℕ} → Put a l i m j → Put b m j n k → Put (a ++ b) l i n k
-put_then {a} {b} {l} {m} {n} {i} {j} {k} p q =
-    record {
-      bytes = rw (q.bytes, p.ends, p.bytes) (sym (sets-append l i a b));
-      ends = omega (arith, length-append a b, p.ends, q.ends);
-    }
+fit-cons : {n : ℕ} (l : List ℕ) → n < 2 ^ 64 → Fits64 l → Fits64 (n ∷ l)
+fit-cons l h fits zero = h
+fit-cons l h fits (suc i) = fits i
 
--- One byte, within the slice or beyond it.
-pub put_byte : (l : List ℕ) (i v : ℕ) → Put (v ∷ []) l i (set l i v) (i + 1)
-put_byte l i v = record { bytes = refl; ends = refl }
-
-pub put-beyond : (l : List ℕ) (i v : ℕ) → length l ≤ i → Put (v ∷ []) l i l (i + 1)
-put-beyond l i v h = record { bytes = sym (set_beyond l i v h); ends = refl }
-
--- The digits of a number.
-pub put_small : (n : ℕ) → n < 10 → {l m : List ℕ} {i j : ℕ} → Put (digit n ∷ []) l i m j → Put (decimal n) l i m j
-put_small n h p = rw (decimal-small n h) p
-
-pub put-large : (n : ℕ) → 10 ≤ n → {l m o : List ℕ} {i j k : ℕ} → Put (decimal (n / 10)) l i m j → Put (digit (n % 10) ∷ []) m j o k
-    → Put (decimal n) l i o k
-put-large n h p q = rw (decimal-large n h) (put_then p q)
+pub behind-written : (l : List ℕ) → Fits64 l → behind_by written l ≡ behind l
+unfolding behind flatten_by
+behind-written [] h = refl
+behind-written (n ∷ l) h = rw (decimal-written n (h 0), behind-written l (λ i. h (suc i))) refl
 
 -- Numbers behind blanks.
 behind-append : (a b : List ℕ) → behind (a ++ b) ≡ behind a ++ behind b
-unfolding behind flat_map
+unfolding behind flatten_by
 behind-append [] b = refl
 behind-append (n ∷ a) b = ap (λ (l : List ℕ). blank ∷ l) (rw (behind-append a b) (sym (append_assoc (decimal n) (behind a) (behind b))))
 
 behind-one : (n : ℕ) → behind (n ∷ []) ≡ blank ∷ decimal n
-unfolding behind flat_map
+unfolding behind flatten_by
 behind-one n = append-nil (blank ∷ decimal n)
 
 pub behind-length : (n : ℕ) (l : List ℕ) → length (behind (n ∷ l)) ≡ length (decimal n) + length (behind l) + 1
@@ -66,95 +53,57 @@ pub behind-four-length : (a b c d : ℕ)
 behind-four-length a b c d =
     omega (arith, behind-length a (b ∷ c ∷ d ∷ []), behind-length b (c ∷ d ∷ []), behind-length c (d ∷ []), ap length (behind-one d))
 
-pub put_four : (a b c d : ℕ) {l m n o p : List ℕ} {i j k h e : ℕ} → Put (blank ∷ decimal a) l i m j → Put (blank ∷ decimal b) m j n k
-    → Put (blank ∷ decimal c) n k o h → Put (blank ∷ decimal d) o h p e → Put (behind (a ∷ b ∷ c ∷ d ∷ [])) l i p e
-unfolding behind flat_map
-put_four a b c d f g q r = put_then f (put_then g (put_then q (rw (sym (behind-one d)) at r)))
-
--- The first i of some rows, and one more.
-module _ (rows : List ℕ) (i : ℕ) (h : i < length rows) where
-  behind_more : behind (take (i + 1) rows) ≡ behind (take i rows) ++ (blank ∷ decimal (get_or rows i 0))
-  behind_more = rw (add-one i, take-suc rows i 0 h, behind-append (take i rows) (get_or rows i 0 ∷ []), behind-one (get_or rows i 0)) refl
-
-  pub behind-within : length (behind (take i rows)) + length (blank ∷ decimal (get_or rows i 0)) ≤ length (behind rows)
-  behind-within =
-      let whole = ap (λ (l : List ℕ). length (behind l)) (take-append-drop (i + 1) rows) in
-      let parts = ap length (behind-append (take (i + 1) rows) (drop (i + 1) rows)) in
-      omega (
-        arith,
-        whole,
-        parts,
-        ap length behind_more,
-        length-append (behind (take i rows)) (blank ∷ decimal (get_or rows i 0)),
-        length-append (behind (take (i + 1) rows)) (behind (drop (i + 1) rows)),
-      )
-
-  pub put-more : {l m n : List ℕ} {start j k : ℕ} → Put (behind (take i rows)) l start m j → Put (blank ∷ decimal (get_or rows i 0)) m j n k
-      → Put (behind (take (i + 1) rows)) l start n k
-  put-more p q = rw behind_more (put_then p q)
-
-pub put-none : (rows l : List ℕ) (start : ℕ) → Put (behind (take 0 rows)) l start l start
-unfolding behind flat_map
-put-none rows l start = put-nothing l start
-
-pub put_all : (rows : List ℕ) {i : ℕ} → i ≡ length rows → {l m : List ℕ} {start j : ℕ} → Put (behind (take i rows)) l start m j → Put (behind rows) l start m j
-put_all rows e p = rw (e, take-length rows) at p
-
-pub put-same-length : {text l m : List ℕ} {i j : ℕ} → Put text l i m j → length m ≡ length l
-put-same-length {text} {l} {m} {i} p = ap length p.bytes ∙ length-sets l i text
-
--- Rows separated by blanks.
-pub put-separated-none : (rows l : List ℕ) (start : ℕ) → length rows ≡ 0 → Put (separated rows) l start l start
+-- The lines of a key, put behind one another.
+pub separated-put : (rows : List ℕ) → Fits64 rows → {n : ℕ} {l : List ℕ} → rows ≡ n ∷ l → (front : List ℕ) {one two : List ℕ} → one ≡ front ++ written n
+    → two ≡ one ++ behind_by written l → two ≡ front ++ separated rows
 unfolding separated
-put-separated-none [] l start h = put-nothing l start
-put-separated-none (n ∷ rows) l start h = absurd (omega arith)
+separated-put rows h {n} {l} whole front e f =
+    let fits : Fits64 (n ∷ l) = subst Fits64 whole h in
+    rw (f, e, whole, decimal-written n (fits 0), behind-written l (λ i. fits (suc i))) (append_assoc front (decimal n) (behind l))
 
--- the rows behind the first
-abbrev rest : List ℕ → List ℕ
-rest rows = take (length rows - 1) (drop 1 rows)
-
-separated-cons : (rows : List ℕ) → 0 < length rows → separated rows ≡ decimal (get_or rows 0 0) ++ behind (rest rows)
+pub separated-nothing : (rows : List ℕ) → length rows ≡ 0 → (front : List ℕ) → front ≡ front ++ separated rows
 unfolding separated
-separated-cons [] h = absurd (omega arith)
-separated-cons (n ∷ rows) h =
-    let size : suc (length rows) - 1 ≡ length rows = omega arith in
-    rw (size, take-length rows) refl
+separated-nothing [] e front = sym (append-nil front)
+separated-nothing (n ∷ rows) e front = absurd (omega arith)
 
-pub separated-length : (rows : List ℕ) → 0 < length rows → length (separated rows) ≡ length (decimal (get_or rows 0 0)) + length (behind (rest rows))
-separated-length rows h = ap length (separated-cons rows h) ∙ length-append (decimal (get_or rows 0 0)) (behind (rest rows))
-
-pub put-separated : (rows : List ℕ) → 0 < length rows → {l m n : List ℕ} {i j k : ℕ} → Put (decimal (get_or rows 0 0)) l i m j
-    → Put (behind (rest rows)) m j n k → Put (separated rows) l i n k
-put-separated rows h p q = rw (separated-cons rows h) (put_then p q)
-
--- The lines of an answer.
 pub no_length : (n : ℕ) → length (no_text n) ≡ length (decimal n) + 4
 unfolding no_text
 no_length n = omega (arith, length-append (behind (n ∷ [])) (line_end ∷ []), ap length (behind-one n))
 
-pub put-no : (n : ℕ) {l m o p : List ℕ} {i j k h : ℕ} → Put no_word l i m j → Put (blank ∷ decimal n) m j o k → Put (line_end ∷ []) o k p h
-    → Put (no_text n) l i p h
+pub no-put : (n : ℕ) → n < 2 ^ 64 → {none one two three : List ℕ} → none ≡ [] → one ≡ none ++ no_word → two ≡ one ++ behind_by written (n ∷ [])
+    → three ≡ two ++ (line_end ∷ []) → three ≡ no_text n
 unfolding no_text
-put-no n f g q = put_then f (put_then (rw (sym (behind-one n)) at g) q)
+no-put n h {one = one} {two = two} d e f g =
+    let all : two ≡ one ++ behind (n ∷ []) = f ∙ ap (λ l. one ++ l) (behind-written (n ∷ []) (fit-cons [] h fit-none)) in
+    rw (g, all, e, d) (append_assoc no_word (behind (n ∷ [])) (line_end ∷ []))
 
 module _ (a : Answer) where
-  abbrev counts : List ℕ
-  counts = behind (a.kept ∷ a.groups ∷ a.module_visits ∷ a.item_visits ∷ [])
+  abbrev pub counts : List ℕ
+  counts = a.kept ∷ a.groups ∷ a.module_visits ∷ a.item_visits ∷ []
 
-  pub ok-length : length (ok_text a) ≡ length counts + length (separated a.written) + 4
+  pub ok-length : length (ok_text a) ≡ length (behind counts) + length (separated a.written) + 4
   unfolding ok_text
   ok-length =
       omega (
         arith,
-        length-append (ok_word ++ (counts ++ (line_end ∷ []))) (separated a.written ++ (line_end ∷ [])),
-        length-append counts (line_end ∷ []),
+        length-append (ok_word ++ (behind counts ++ (line_end ∷ []))) (separated a.written ++ (line_end ∷ [])),
+        length-append (behind counts) (line_end ∷ []),
         length-append (separated a.written) (line_end ∷ []),
       )
 
-  pub put-ok : {l m n o p q : List ℕ} {i j k h e f : ℕ} → Put ok_word l i m j → Put counts m j n k → Put (line_end ∷ []) n k o h
-      → Put (separated a.written) o h p e → Put (line_end ∷ []) p e q f → Put (ok_text a) l i q f
+  pub ok-put : a.kept < 2 ^ 64 → a.groups < 2 ^ 64 → a.module_visits < 2 ^ 64 → a.item_visits < 2 ^ 64 → {none one two three four five : List ℕ}
+      → none ≡ [] → one ≡ none ++ ok_word → two ≡ one ++ behind_by written counts → three ≡ two ++ (line_end ∷ [])
+      → four ≡ three ++ separated a.written → five ≡ four ++ (line_end ∷ []) → five ≡ ok_text a
   unfolding ok_text
-  put-ok u v w x y = put_then (put_then u (put_then v w)) (put_then x y)
+  ok-put k g m v {one = one} {two = two} c d e f h i =
+      let fits =
+      fit-cons (a.groups ∷ a.module_visits ∷ a.item_visits ∷ []) k
+      (fit-cons (a.module_visits ∷ a.item_visits ∷ []) g (fit-cons (a.item_visits ∷ []) m (fit-cons [] v fit-none)))
+      in
+      let all : two ≡ one ++ behind counts = e ∙ ap (λ l. one ++ l) (behind-written counts fits) in
+      rw (i, h, f, all, d, c)
+      (ap (λ l. (l ++ separated a.written) ++ (line_end ∷ [])) (append_assoc ok_word (behind counts) (line_end ∷ []))
+      ∙ append_assoc (ok_word ++ (behind counts ++ (line_end ∷ []))) (separated a.written) (line_end ∷ []))
 
 -- The two kinds of a key.
 pub key-ok : (a : Answer) → a.number ≡ 0 → key_of a ≡ ok_text a

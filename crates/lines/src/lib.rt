@@ -5,148 +5,159 @@
 
 pub mod text;
 
-ghost use Rattle.std.specs.Prelude.{◌+◌, ◌≤◌, ◌<◌, length};
+ghost use Rattle.std.specs.Prelude.{◌≡◌, ◌+◌, ◌≤◌, ◌↔◌, ◌⊎◌, length, take, replicate, slice_get, IsSome};
 
 use sort::{entry, groups_entry};
+use text::{Pieces, value_of};
 
 // The bytes that stand before a reply or a report, and behind it.
-pub const AROUND: usize = 2;
+const AROUND: usize = 2;
 
-// The bytes of the words from the one at `at` on; how many. Which bytes they are is left free: what a test program reads is seen in what it prints.
-pub fn bytes_of(line: &[u8], at: usize, out: &mut [u8]) -> usize
-    requires { at ≤ length line.now }
+// What every byte of the arrays is before a call.
+const UNTOUCHED: u8 = 170;
+
+// The bytes of the arrays.
+const PROJECT: usize = 8300;
+
+const REPLY: usize = 4200;
+
+const REPORT: usize = 40;
+
+// The bytes of the words; how many. Which bytes they are is left free: what a test program reads is seen in what it prints.
+fn bytes_of(mut words: Pieces<'_>, out: &mut [u8]) -> usize
     ensures { result ≤ length out.new }
 {
-    let mut n = 0;
-    let mut i = at;
-    while i < line.len() {
-        if n == out.len() {
+    for (n, place) in out.iter_mut().enumerate() {
+        let Some(word) = words.next() else {
             return n;
-        }
-        let r = text::number(line, i);
-        out[n] = (r.value % 256) as u8;
-        i = r.at;
-        n += 1;
+        };
+        *place = (value_of(word) % 256) as u8;
     }
-    n
+    out.len()
 }
 
 // The length of a reply or a report, as a line asks for it. Proved is that the array has room for it and the bytes around it.
-fn length_of(value: u64, array: &[u8]) -> usize
+fn length_of(value: u32, array: &[u8]) -> usize
     requires { 4 ≤ length array.now }
     ensures { result + 4 ≤ length array.now }
 {
     let most = array.len() - 2 * AROUND;
-    if value < most as u64 {
-        value as usize
-    } else {
-        most
-    }
+    most.min(value as usize)
 }
 
-// Writes 170 over an array. What its bytes are then is left free.
-pub fn mark(array: &mut [u8]) {
-    let mut i = 0;
-    while i < array.len() {
-        array[i] = 170;
-        i += 1;
-    }
-}
-
-// The entry that a line's first letter names.
-fn enter(letter: u8, project: &[u8], reply: &mut [u8], report: &mut [u8], allowance: u32) -> u32 {
-    if letter == b'g' {
-        groups_entry::escarpim_groups(project, reply, report, allowance)
-    } else {
-        entry::escarpim_order(project, reply, report, allowance)
-    }
-}
-
-// The number that an entry has returned, and where the bytes behind reply and report end.
+// The two entries.
 #[derive(Clone, Copy)]
-pub struct Returned {
-    pub number: u32,
-    pub replied: usize,
-    pub reported: usize,
+enum Entry {
+    Groups,
+    Order,
 }
 
-// Makes a call with a reply of `space` bytes and a report of `room`.
-fn run_call(
-    letter: u8,
-    project: &[u8],
-    reply: &mut [u8],
-    space: usize,
-    report: &mut [u8],
-    room: usize,
+impl Entry {
+    // The entry that a line's first letter names.
+    fn named(letter: u8) -> Option<Self>
+        ensures { IsSome result ↔ ((letter ≡ 103) ⊎ (letter ≡ 111)) }
+    {
+        match letter {
+            b'g' => Some(Entry::Groups),
+            b'o' => Some(Entry::Order),
+            _ => None,
+        }
+    }
+
+    fn enter(self, project: &[u8], reply: &mut [u8], report: &mut [u8], allowance: u32) -> u32 {
+        match self {
+            Entry::Groups => groups_entry::escarpim_groups(project, reply, report, allowance),
+            Entry::Order => entry::escarpim_order(project, reply, report, allowance),
+        }
+    }
+}
+
+// A call, as a line writes it: the entry, the lengths of reply and report, the allowance, and the words of the project.
+#[derive(Clone, Copy)]
+pub struct Call<'a> {
+    entry: Entry,
+    reply: u32,
+    report: u32,
     allowance: u32,
-) -> Returned
-    requires { (space + 4 ≤ length reply.old) × (room + 4 ≤ length report.old) }
-    ensures { (result.replied ≤ length reply.new) × (result.reported ≤ length report.new) }
-{
-    let reply_end = AROUND + space;
-    let report_end = AROUND + room;
-    let number = enter(
-        letter,
-        project,
-        &mut reply[AROUND..reply_end],
-        &mut report[AROUND..report_end],
-        allowance,
-    );
-    Returned {
-        number,
-        replied: reply_end + AROUND,
-        reported: report_end + AROUND,
+    project: Pieces<'a>,
+}
+
+impl<'a> Call<'a> {
+    // None where the line names no entry: its first letter is neither a `g` nor an `o`.
+    pub fn read(line: &'a [u8]) -> Option<Self>
+        ensures { IsSome result ↔ ((slice_get line.now 0 ≡ Some 103) ⊎ (slice_get line.now 0 ≡ Some 111)) }
+    {
+        let entry = Entry::named(*line.first()?)?;
+        let mut words = Pieces::new(line, b' ');
+        words.next();
+        let reply = words.next().map_or(0, value_of);
+        let report = words.next().map_or(0, value_of);
+        let allowance = words.next().map_or(0, value_of);
+        Some(Call {
+            entry,
+            reply,
+            report,
+            allowance,
+            project: words,
+        })
     }
 }
 
-// The numbers that a line gives, and where the project's bytes start.
+// What a call has returned, and the bytes that it was given, with those around them.
 #[derive(Clone, Copy)]
-struct Call {
-    space: u64,
-    room: u64,
-    allowance: u64,
-    at: usize,
+pub struct Returned<'a> {
+    pub number: u32,
+    pub reply: &'a [u8],
+    pub report: &'a [u8],
 }
 
-fn call_of(line: &[u8]) -> Call
-    ensures { (result.at ≤ length line.now) × (result.allowance < 4294967296) }
-{
-    let at = text::behind(line, text::find(line, 0, b' '));
-    let space = text::number(line, at);
-    let room = text::number(line, space.at);
-    let allowance = text::number(line, room.at);
-    Call {
-        space: space.value,
-        room: room.value,
-        allowance: allowance.value,
-        at: allowance.at,
+// The arrays that reply and report are parts of.
+#[derive(PartialEq, Drop)]
+pub struct Arrays {
+    reply: [u8; REPLY],
+    report: [u8; REPORT],
+}
+
+impl Arrays {
+    pub fn new() -> Self
+        ensures { (result.reply ≡ replicate REPLY 170) × (result.report ≡ replicate REPORT 170) }
+    {
+        Arrays {
+            reply: [UNTOUCHED; REPLY],
+            report: [UNTOUCHED; REPORT],
+        }
     }
-}
 
-// Makes the call of a line, whose project is written to `project`. What project, reply and report hold then is left free.
-pub fn run_call_line(
-    letter: u8,
-    line: &[u8],
-    project: &mut [u8],
-    reply: &mut [u8],
-    report: &mut [u8],
-) -> Returned
-    requires { (4 ≤ length reply.old) × (4 ≤ length report.old) }
-    ensures { (result.replied ≤ length reply.new) × (result.reported ≤ length report.new) }
-{
-    mark(reply);
-    mark(report);
-    let c = call_of(line);
-    let n = bytes_of(line, c.at, project);
-    let space = length_of(c.space, reply);
-    let room = length_of(c.room, report);
-    run_call(
-        letter,
-        &project[..n],
-        reply,
-        space,
-        report,
-        room,
-        c.allowance as u32,
-    )
+    // The arrays after a call that has written these words to the reply and to the report.
+    pub fn written(reply: &[u8], report: &[u8]) -> Self
+        ensures { (take AROUND result.reply ≡ replicate AROUND 170) × (take AROUND result.report ≡ replicate AROUND 170) }
+    {
+        let mut arrays = Arrays::new();
+        bytes_of(Pieces::new(reply, b' '), &mut arrays.reply[AROUND..]);
+        bytes_of(Pieces::new(report, b' '), &mut arrays.report[AROUND..]);
+        arrays
+    }
+
+    // Makes a call. What reply and report hold then is left free.
+    pub fn run(&mut self, call: Call<'_>) -> Returned<'_>
+        ensures { (length result.reply.now ≤ REPLY) × (length result.report.now ≤ REPORT) }
+    {
+        self.reply.fill(UNTOUCHED);
+        self.report.fill(UNTOUCHED);
+        let mut project = [0u8; PROJECT];
+        let n = bytes_of(call.project, &mut project);
+        let reply_end = AROUND + length_of(call.reply, &self.reply);
+        let report_end = AROUND + length_of(call.report, &self.report);
+        let number = call.entry.enter(
+            &project[..n],
+            &mut self.reply[AROUND..reply_end],
+            &mut self.report[AROUND..report_end],
+            call.allowance,
+        );
+        Returned {
+            number,
+            reply: &self.reply[..reply_end + AROUND],
+            report: &self.report[..report_end + AROUND],
+        }
+    }
 }

@@ -4,52 +4,29 @@
 // test of compare/ holds that file to the plain rendering.
 #![tactic(auto)]
 
-ghost use Rattle.std.specs.Prelude.{◌^◌, ◌<◌, ◌≤◌, length};
+ghost use Rattle.std.specs.Prelude.{◌^◌, ◌<◌};
 
 use input::read_full;
-use lines::text;
+use lines::text::Pieces;
+use lines::{Arrays, Call};
 use std::io;
 use std::io::Read;
 
-// Prints a blank and a number.
-fn print_number(rt: &impl Print, n: u64) -> io::Result<()> {
-    print!(rt; " {n}")
-}
-
 fn print_bytes(rt: &impl Print, bytes: &[u8]) -> io::Result<()> {
-    let mut i = 0;
-    while i < bytes.len() {
-        print_number(rt, bytes[i] as u64)?;
-        i += 1;
+    for byte in bytes {
+        print!(rt; " {byte}")?;
     }
     Ok(())
 }
 
-// Prints a number, a reply and a report.
-fn print_answer(rt: &impl Print, n: u32, reply: &[u8], report: &[u8]) -> io::Result<()> {
-    print_number(rt, n as u64)?;
+// Makes a call and prints its number, the reply and the report.
+fn run_call(rt: &impl Print, call: Call<'_>, arrays: &mut Arrays) -> io::Result<()> {
+    let answer = arrays.run(call);
+    print!(rt; " {} :", answer.number)?;
+    print_bytes(rt, answer.reply)?;
     rt.write_all(b" :")?;
-    print_bytes(rt, reply)?;
-    rt.write_all(b" :")?;
-    print_bytes(rt, report)?;
+    print_bytes(rt, answer.report)?;
     rt.write_all(b"\n")
-}
-
-// Makes the call of a line and prints its answer.
-fn run_call_line(
-    rt: &impl Print,
-    letter: u8,
-    line: &[u8],
-    project: &mut [u8],
-    reply: &mut [u8],
-    report: &mut [u8],
-) -> io::Result<()>
-    requires { (4 ≤ length reply.old) × (4 ≤ length report.old) }
-{
-    let r = lines::run_call_line(letter, line, project, reply, report);
-    let replied = r.replied;
-    let reported = r.reported;
-    print_answer(rt, r.number, &reply[..replied], &report[..reported])
 }
 
 fn print_line(rt: &impl Print, line: &[u8]) -> io::Result<()> {
@@ -58,57 +35,31 @@ fn print_line(rt: &impl Print, line: &[u8]) -> io::Result<()> {
 }
 
 // Copies a remark, makes a call, or marks what is neither.
-fn run_line(
-    rt: &impl Print,
-    line: &[u8],
-    project: &mut [u8],
-    reply: &mut [u8],
-    report: &mut [u8],
-) -> io::Result<()>
-    requires { (4 ≤ length reply.old) × (4 ≤ length report.old) }
-{
-    if line.len() == 0 {
-        return Ok(());
-    }
-    let letter = line[0];
-    match letter {
-        b'#' => print_line(rt, line),
-        b'g' | b'o' => run_call_line(rt, letter, line, project, reply, report),
-        _ => {
-            rt.write_all(b"? ")?;
-            print_line(rt, line)
-        }
+fn run_line(rt: &impl Print, line: &[u8], arrays: &mut Arrays) -> io::Result<()> {
+    match line {
+        [] => Ok(()),
+        [b'#', ..] => print_line(rt, line),
+        _ => match Call::read(line) {
+            Some(call) => run_call(rt, call, arrays),
+            None => {
+                rt.write_all(b"? ")?;
+                print_line(rt, line)
+            }
+        },
     }
 }
 
-fn run_lines(
-    rt: &impl Print,
-    lines: &[u8],
-    project: &mut [u8],
-    reply: &mut [u8],
-    report: &mut [u8],
-) -> io::Result<()>
-    requires { (4 ≤ length reply.old) × (4 ≤ length report.old) }
-{
-    let mut at = 0;
-    while at < lines.len() {
-        let end = text::find(lines, at, b'\n');
-        run_line(rt, &lines[at..end], project, reply, report)?;
-        at = text::behind(lines, end);
-    }
-    Ok(())
-}
-
-// Runs the lines of the first `LIMIT` bytes of the input.
+// Runs the lines of the first `LIMIT` bytes of the input. The limit is a parameter, so that no proof has to spell out so long an array.
 fn run_input<const LIMIT: usize>(rt: &impl Print, input: &mut impl Read) -> io::Result<()>
     requires { LIMIT < 2 ^ 63 }
 {
     let mut read = [0u8; LIMIT];
     let n = read_full(input, &mut read)?;
-    let mut project = [0u8; 8300];
-    let mut reply = [0u8; 4200];
-    let mut report = [0u8; 40];
-    run_lines(rt, &read[..n], &mut project, &mut reply, &mut report)
+    let mut arrays = Arrays::new();
+    for line in Pieces::new(&read[..n], b'\n') {
+        run_line(rt, line, &mut arrays)?;
+    }
+    Ok(())
 }
 
 fn main(rt: HostRuntime) -> io::Result<()> {

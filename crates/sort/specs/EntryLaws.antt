@@ -1,7 +1,9 @@
 -- Laws for the proofs of the entries. Assumes nothing.
-use Rattle.std.specs.Prelude.{ℕ, ◌≤◌, ◌<◌, ◌≡◌, refl, length}
-use Rattle.std.proofs.Common.{sym, lt-ltb, le-ltb}
-use mathlib.Core.List.{List, flat_map}
+use Rattle.std.specs.Prelude.{ℕ, ◌+◌, ◌-◌, ◌≤◌, ◌<◌, ◌≡◌, refl, length}
+use Rattle.std.proofs.Common.{arith, sym, ◌∙◌, lt-ltb, le-ltb, take, drop, drop-drop}
+use Rattle.std.specs.Int.{w32, to_le_bytes}
+use borrow.Rule.Slice.PartMut.{put_mid}
+use mathlib.Core.List.{List, flat_map, append_assoc}
 use Rattle.std.proofs.lemmas.List.Edits.{sets}
 use Rattle.std.proofs.Math.Seq.{sets-eq}
 use Rattle.rules.specs.Calls.{Answer, overwrite, bytes32, report_bytes, reported}
@@ -9,6 +11,15 @@ use Rattle.laws.specs.Entries.{reported-short, reported-long}
 use Rattle.sort.specs.declared.Numbers.{Numbers}
 use Rattle.sort.specs.Answers.{numbers_of, Answered}
 use Rattle.sort.specs.Entries.{entry_of}
+
+-- Four bytes copied to a place, the lowest first.
+pub number-written : (report copied : List ℕ) (at n : ℕ) → at + 4 ≤ length report → copied ≡ to_le_bytes w32 n
+    → put_mid at (at + 4 - at) report copied ≡ sets report at (bytes32 n)
+unfolding bytes32
+number-written report copied at n h e =
+    let four : at + 4 - at ≡ 4 = omega arith in
+    rw (four, e, drop-drop)
+    (sym (append_assoc (take at report) (bytes32 n) (drop (at + 4) report)) ∙ sym (sets-eq (bytes32 n) report at h))
 
 -- Five numbers of 32 bits written one behind the other are the report's bytes.
 module _ (a : Answer) (report : List ℕ) (long : 20 ≤ length report) where

@@ -1,10 +1,21 @@
 // The same entry over a groups call.
 ghost use Rattle.std.specs.Prelude.{◌≡◌};
-ghost use Rattle.rules.specs.Calls.{groups_entry};
+ghost use Rattle.rules.specs.Calls.{groups_call, groups_entry};
 ghost use Rattle.sort.specs.Entries.{entry_of};
 ghost use Rattle.sort.specs.Guarantees.{GroupsEntryGuaranteed};
 
-use super::report;
+use super::Numbers;
+use super::report::{Call, enter};
+
+struct GroupsCall;
+
+impl Call for GroupsCall {
+    ghost answer = { groups_call };
+
+    fn make(project: &[u8], reply: &mut [u8], allowance: u32) -> Numbers {
+        super::groups(project, reply, allowance)
+    }
+}
 
 // The number of the answer, which is 13 where the report is short; then nothing is touched.
 pub fn escarpim_groups(project: &[u8], reply: &mut [u8], report: &mut [u8], allowance: u32) -> u32
@@ -12,10 +23,5 @@ pub fn escarpim_groups(project: &[u8], reply: &mut [u8], report: &mut [u8], allo
     ensures guarantees { GroupsEntryGuaranteed project.now reply.old report.old allowance
         (entry_of result reply.new report.new) }
 {
-    if report.len() < report::SIZE {
-        return 13;
-    }
-    let n = super::groups(project, reply, allowance);
-    report::write_report(report, n);
-    n.answer
+    enter::<GroupsCall>(project, reply, report, allowance)
 }

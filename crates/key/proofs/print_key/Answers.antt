@@ -32,7 +32,7 @@ module _ (read : List ℕ) (n limit : ℕ) (size : length read ≡ limit) (withi
 
 -- Where the key of these bytes is written, the paper's text for the input is.
 key-written : {E : Type 0} (r : Result Unit E) (a b before after : Option (List ℕ)) (read text : List ℕ) (n end : ℕ) → length read ≡ key_input_limit
-    → n ≤ length read → Consumes a b (take n read) → (n < length read → IsAtEnd b) → Prints read n text end
+    → n ≤ length read → Consumes a b (take n read) → (n < length read → IsAtEnd b) → Prints (take n read) text end
     → OnOk r (Appends before after (take end text)) → OnOk r (IfSome a (λ all. Appends before after (printed all)))
 key-written r a b before after read text n end size within consumed short prints written =
     let front = front-read read n key_input_limit size within a b consumed short in

@@ -1,8 +1,10 @@
-use Rattle.std.proofs.Common.{◌≤◌, ◌-◌, length}
+-- Each line takes a byte at least.
+use Rattle.std.proofs.Common.{◌+◌, ◌≤◌, length}
 use Rattle.replay.proofs.replay_lines.Given as goal
 
-abbrev pub invariant-loop-at : goal.invariant-loop-at
-invariant-loop-at g l = (l.at ≤ length l.lines) × (l.count.calls ≤ l.at) × (l.count.differ ≤ l.at)
-
-abbrev pub decreases-loop-at : goal.decreases-loop-at
-decreases-loop-at g l = length l.lines - l.at
+abbrev pub invariant-loop-line : goal.invariant-loop-line
+invariant-loop-line g l =
+    (goal.iterator-loop-line g).can_next l.line-iterator
+    × (goal.iterator-loop-line g).is_finite l.line-iterator
+    × (l.count.calls + length l.line-iterator.rest.now ≤ length l.fn.lines.rest.now)
+    × (l.count.differ ≤ l.count.calls)

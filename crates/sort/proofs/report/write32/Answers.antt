@@ -1,13 +1,6 @@
-use Prim.Native.Nat.{suc, ◌+◌}
-use native.Mathlib.Omega.{arith}
-use mathlib.Core.Path.{◌≡◌, refl}
-use Rattle.rules.specs.Calls.{bytes32}
+use Rattle.std.proofs.Common.{rules}
+use Rattle.sort.specs.EntryLaws.{number-written}
 use Rattle.sort.proofs.report.write32.Goals as goal
 
 pub returns : goal.returns
-unfolding bytes32
-returns c =
-    let e : c.args.at + 1 ≡ suc c.args.at = omega arith in
-    let f : c.args.at + 2 ≡ suc (suc c.args.at) = omega arith in
-    let g : c.args.at + 3 ≡ suc (suc (suc c.args.at)) = omega arith in
-    rw (e, f, g) refl
+returns c = number-written c.args.report.now c.copy_from_slice.new.self c.args.at c.args.n c.requires (search rules)

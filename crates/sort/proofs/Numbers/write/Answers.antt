@@ -1,5 +1,5 @@
 use Rattle.sort.specs.EntryLaws.{report-written}
-use Rattle.sort.proofs.report.write_report.Goals as goal
+use Rattle.sort.proofs.Numbers.write.Goals as goal
 
 pub returns : goal.returns
 returns c a e =
