@@ -12,7 +12,7 @@ use graph::rows::ROW_WORDS;
 use group::sort_stmts;
 use owners::{chain_needs, note_owners};
 use project::Layout;
-use project::sections::{ItemRow, NeedRow};
+use project::sections::{ItemRow, NeedRow, Row};
 use split::chains::chain_rows;
 use stmt::walk::ItemWalk;
 

@@ -8,7 +8,7 @@ ghost use Rattle.laws.specs.Counting.{Below};
 ghost use Rattle.owners.specs.Owners.{or_else, Noted, Notable, OwnersShown, owner_at, RowRoom, both_own, heads_with, next_with, NeedsChainable, NeedsChained};
 
 use project::ItemId;
-use project::sections::{ItemRow, NeedRow, item_at, need_at};
+use project::sections::{ItemRow, NeedRow, Row};
 
 // The first of two owners, where 0 stands for none.
 fn or_else(a: u8, b: u8) -> u8
@@ -51,8 +51,8 @@ fn owner_of(items: &[u8], owners: &[u8], item: ItemId) -> u8
     requires { RowRoom items.now owners.now item.0 }
     ensures { result ≡ owner_at items.now owners.now item.0 }
 {
-    let row = item_at(items, ItemRow::BYTES * (item.0 as usize));
-    owners[row.in_module.0 as usize]
+    let row = ItemRow::nth(items, usize::from(item));
+    owners[usize::from(row.in_module)]
 }
 
 // What two rows are both owned by, or 0.
@@ -85,10 +85,8 @@ pub fn chain_needs(items: &[u8], needs: &[u8], owners: &[u8], heads: &mut [u16],
         → NeedsChainable p groups items.now needs.now owners.now heads.old next.old
         → NeedsChained p groups needs.now next.new heads.new }
 {
-    let mut i = needs.len() / NeedRow::BYTES;
-    while 0 < i {
-        i -= 1;
-        let row = need_at(needs, NeedRow::BYTES * i);
+    for i in (0..needs.len() / NeedRow::BYTES).rev() {
+        let row = NeedRow::nth(needs, i);
         let a = owner_of(items, owners, row.dependant);
         let b = owner_of(items, owners, row.dependency);
         link_row(heads, next, i, both_own(a, b) as usize);

@@ -1,11 +1,13 @@
 -- Lists that stand one behind the other, by the first of them. Assumes nothing.
-use Prim.Native.Nat.{ℕ, zero, suc, ◌≤◌}
+use Prim.Native.Nat.{ℕ, zero, suc, ◌≤◌, ◌<◌}
 use native.Mathlib.Omega.{arith}
 use Rattle.std.specs.Prelude.{◌≡◌, true, false, leb, length, take, drop}
 use Rattle.std.proofs.Math.Path.{refl, sym, ap}
 use mathlib.Core.List.{List, [], ◌∷◌}
-use Rattle.laws.specs.Lists.{false≢true}
-use Rattle.laws.specs.Counting.{neither}
+use mathlib.Core.List.Memᴰ
+use borrow.Author.Tests.{leb-false}
+use Rattle.laws.specs.Lists.{∈-self, false≢true}
+use Rattle.laws.specs.Counting.{neither, EachBelow, below-nil, below-cons, each-cons, tail-∈}
 use Rattle.rules.specs.Project.{join_first, lists_from, circle_lists, bad_circles}
 use Rattle.project.specs.Counted.{is_whole, AreWhole}
 
@@ -48,3 +50,22 @@ whole-left modules (suc left) (m ∷ rest) e = whole-left modules left rest (nei
 
 pub circles_whole : (modules : ℕ) (bytes : List ℕ) → bad_circles modules 0 bytes ≡ false → AreWhole bytes
 circles_whole modules bytes e = whole-left modules 0 bytes e
+
+-- Their members are modules.
+join-below : {bound m : ℕ} (ls : List (List ℕ)) → m < bound → EachBelow bound ls → EachBelow bound (join_first m ls)
+unfolding join_first
+join-below [] h b = b
+join-below (l ∷ ls) h b = each-cons (below-cons h (b l ∈-self)) (λ k m. b k (Memᴰ.tail m))
+
+lists-below : (bound left : ℕ) (bytes : List ℕ) → bad_circles bound left bytes ≡ false → EachBelow bound (lists_from left bytes)
+unfolding bad_circles lists_from
+lists-below bound zero [] e = each-cons below-nil (λ k m. absurd (Memᴰ.not-nil m))
+lists-below bound zero (n ∷ bytes) e = each-cons below-nil (lists-below bound n bytes e)
+lists-below bound (suc left) [] e = absurd (false≢true (sym e))
+lists-below bound (suc left) (m ∷ bytes) e =
+    let r = neither {a = leb bound m} e in
+    join-below (lists_from left bytes) (leb-false bound m r.0) (lists-below bound left bytes r.1)
+
+pub circles_below : (modules : ℕ) (bytes : List ℕ) → bad_circles modules 0 bytes ≡ false → EachBelow modules (circle_lists bytes)
+unfolding circle_lists
+circles_below modules bytes e l m = lists-below modules 0 bytes e l (tail-∈ (lists_from 0 bytes) m)
