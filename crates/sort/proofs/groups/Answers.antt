@@ -12,7 +12,7 @@ pub returns-in-Err : goal.returns-in-Err
 returns-in-Err c =
     let a = c.args in
     let g = groups-guaranteed a.project.now a.reply.now a.allowance
-    (rw c.refusal.ensures (call-refused a.project.now a.reply.now a.allowance _ (answer-refused a.project.now _ c.in-Err.ensures))) in
+    (rw (c.refusal.ensures, c.into.ensures) (call-refused a.project.now a.reply.now a.allowance _ (answer-refused a.project.now _ c.in-Err.ensures))) in
     record { answer = g.0; guarantees = g.1 }
 
 pub returns-in-Ok : goal.returns-in-Ok
