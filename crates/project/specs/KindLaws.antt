@@ -1,7 +1,7 @@
 -- What the code's kinds of items say of the numbers that stand for them. Assumes nothing.
-use Rattle.std.specs.Prelude.{ℕ, zero, suc, ◌≤◌, ◌<◌, ◌≡◌, Bool, true, false, not, eqb, Option, Some, None}
+use Rattle.std.specs.Prelude.{ℕ, zero, suc, ◌≤◌, ◌<◌, ◌≡◌, Bool, true, false, not, eqb, Option, Some, None, MatchOption, IsTrue}
 use Rattle.std.specs.Option.{is_some}
-use Rattle.std.proofs.Common.{arith, rules, refl, lt-ltb, ne_eqb}
+use Rattle.std.proofs.Common.{arith, rules, refl, sym, ◌∙◌, lt-ltb, ne_eqb}
 use Rattle.rules.specs.Items.{is_kept, is_injected, may_drop}
 use Rattle.project.specs.declared.kinds.Kind.{Kind}
 use Rattle.project.specs.declared.kinds.Kind.TheVariants.{Plain, MayDropAll, MayDropWeak, Injected, Dropped}
@@ -37,3 +37,13 @@ none-shown (Some k) false e = refl
 none-shown (Some k) true e = e
 none-shown None true e = refl
 none-shown None false e = e
+
+-- A test of a kind, by what it answers where there is one, and where there is none.
+module _ (test : Option Kind → Bool) {P : Kind → Type 0} {r : Bool} where
+  pub some_and : (k : Option Kind) → test None ≡ false → ((x : Kind) → P x → r ≡ test (Some x)) → MatchOption k (r ≡ false) P → r ≡ test k
+  some_and (Some x) n f e = f x e
+  some_and None n f e = e ∙ sym n
+
+  pub none_or : (k : Option Kind) → test None ≡ true → ((x : Kind) → P x → r ≡ test (Some x)) → MatchOption k (IsTrue r) P → r ≡ test k
+  none_or (Some x) n f e = f x e
+  none_or None n f e = e ∙ sym n

@@ -1,7 +1,7 @@
 // The kinds of items, by the paper's numbers.
-ghost use Rattle.std.specs.Prelude.{ℕ, ◌≡◌, eqb};
+ghost use Rattle.std.specs.Prelude.{ℕ, ◌≡◌, eqb, Some};
 ghost use Rattle.rules.specs.Items.{is_kept, is_injected, may_drop};
-ghost use Rattle.project.specs.Kinds.{Says};
+ghost use Rattle.project.specs.Kinds.{kept_by, injected_by, may_drop_by, Says};
 
 // What the kind of an item says of it.
 #[derive(Clone, Copy, PartialEq, Eq)]
@@ -18,7 +18,34 @@ pub enum Kind {
     Dropped,
 }
 
-// The byte that an item's kind is read from. One above 5 is no kind.
+impl Kind {
+    // Whether items of the kind are kept.
+    pub fn is_kept(self) -> bool
+        ensures { result ≡ kept_by (Some self) }
+    {
+        self != Kind::Dropped
+    }
+
+    // Whether they are injected.
+    pub fn is_injected(self) -> bool
+        ensures { result ≡ injected_by (Some self) }
+    {
+        self == Kind::Injected
+    }
+
+    // Whether they may drop a dependency, which is `weak` where its weight is Maybe.
+    pub fn may_drop(self, weak: bool) -> bool
+        ensures { (weight : ℕ) → weak ≡ eqb weight 1 → result ≡ may_drop_by (Some self) weight }
+    {
+        match self {
+            Kind::MayDropAll => true,
+            Kind::MayDropWeak => weak,
+            _ => false,
+        }
+    }
+}
+
+// The byte that an item's kind is read from. One above 5 is no kind: number 6 of the table turns it down.
 #[derive(Clone, Copy, PartialEq, Eq)]
 pub struct KindByte(pub u8);
 
@@ -37,25 +64,22 @@ impl KindByte {
         }
     }
 
-    // Whether items of the kind are kept.
+    // The tests of a kind, of the byte. One above 5 is not 5, as the paper's test for kept items asks.
     pub fn is_kept(self) -> bool
         ensures { result ≡ is_kept self.0 }
     {
-        self.kind() != Some(Kind::Dropped)
+        self.kind().is_none_or(|kind| kind.is_kept())
     }
 
-    // Whether they are injected.
     pub fn is_injected(self) -> bool
         ensures { result ≡ is_injected self.0 }
     {
-        self.kind() == Some(Kind::Injected)
+        self.kind().is_some_and(|kind| kind.is_injected())
     }
 
-    // Whether they may drop a dependency, which is `weak` where its weight is Maybe.
     pub fn may_drop(self, weak: bool) -> bool
         ensures { (weight : ℕ) → weak ≡ eqb weight 1 → result ≡ may_drop self.0 weight }
     {
-        let kind = self.kind();
-        (kind == Some(Kind::MayDropAll)) | (weak & (kind == Some(Kind::MayDropWeak)))
+        self.kind().is_some_and(|kind| kind.may_drop(weak))
     }
 }
