@@ -8,6 +8,7 @@ ghost use Rattle.laws.specs.Counting.{Below};
 ghost use Rattle.owners.specs.Owners.{or_else, Noted, Notable, OwnersShown, owner_at, RowRoom, both_own, heads_with, next_with, NeedsChainable, NeedsChained};
 
 use project::ItemId;
+use project::reader::Lists;
 use project::sections::{ItemRow, NeedRow, Row};
 
 // The first of two owners, where 0 stands for none.
@@ -35,13 +36,9 @@ pub fn note_owners(bytes: &[u8], count: usize, owners: &mut [u8])
     requires { (groups : List (List ℕ)) × Notable groups bytes.now count owners.old }
     ensures { (groups : List (List ℕ)) → Notable groups bytes.now count owners.old → OwnersShown groups owners.new }
 {
-    let mut place = 0;
     let mut left = count;
-    while 0 < left {
-        let start = place + 1;
-        let end = start + bytes[place] as usize;
-        note_members(&bytes[start..end], left as u8, owners);
-        place = end;
+    for members in Lists::new(bytes) {
+        note_members(members, left as u8, owners);
         left -= 1;
     }
 }
