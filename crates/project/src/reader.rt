@@ -1,4 +1,4 @@
-// Reading a section row by row, by a struct that holds its bytes and a position.
+// Reading a section row by row, or list by list: a reader of rows holds the section's bytes and a position.
 ghost use Rattle.std.specs.Prelude.{◌≡◌};
 ghost use Rattle.std.specs.Iterator.{YieldsFirstBy, YieldsFirstRef, item_count};
 ghost use Rattle.rules.specs.Project.{circle_lists};

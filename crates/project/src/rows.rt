@@ -47,7 +47,8 @@ pub fn bad_imports(section: &[u8], modules: u8) -> bool
     Reader::<ImportRow>::new(section).any(|row| bad_import(row, modules))
 }
 
-// 8, "a list passes the section's end, or a member not below M". `left` counts the members that the present list still lacks.
+// 8, "a list passes the section's end, or a member not below M". `left` counts the members that the present list still lacks. The last list
+// may be cut short, so that `Lists` can't take them apart.
 pub fn bad_circles(section: &[u8], modules: u8) -> bool
     ensures { result ≡ bad_circles modules 0 section.now }
 {
