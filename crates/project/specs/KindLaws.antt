@@ -31,12 +31,12 @@ says-none kind h =
     other : (n : ℕ) → n ≤ 5 → eqb kind n ≡ false
     other n k = ne_eqb kind n (λ e. omega arith)
 
-pub none-shown : (k : Option Kind) (r : Bool) → is_some k ≡ not r → r ≡ is_no_kind k
+pub none_shown : (k : Option Kind) (r : Bool) → is_some k ≡ not r → r ≡ is_no_kind k
 unfolding is_no_kind
-none-shown (Some k) false e = refl
-none-shown (Some k) true e = e
-none-shown None true e = refl
-none-shown None false e = e
+none_shown (Some k) false e = refl
+none_shown (Some k) true e = e
+none_shown None true e = refl
+none_shown None false e = e
 
 -- A test of a kind, by what it answers where there is one, and where there is none.
 module _ (test : Option Kind → Bool) {P : Kind → Type 0} {r : Bool} where

@@ -41,7 +41,7 @@ module _ (bytes : List ℕ) where
       record { passes = t; layout = refl; sections = sections bytes t }
 
 -- The rest of the table, on the parts of the bytes that the code takes.
-pub read-rows : {bytes : List ℕ} {l : Layout} → Measured bytes l
+pub read_rows : {bytes : List ℕ} {l : Layout} → Measured bytes l
     → read bytes ≡
     cond (any (bad_item l.modules) (pair_rows item_row (part 36 l.items_end bytes))) (refused 6)
     (cond (any (bad_import l.modules) (pair_rows import_row (part l.items_end l.imports_end bytes))) (refused 7)
@@ -49,7 +49,7 @@ pub read-rows : {bytes : List ℕ} {l : Layout} → Measured bytes l
     (cond (any (bad_need ((l.items_end - 36) / 2)) (need_rows (part l.circles_end (length bytes) bytes))) (refused 9)
     (accepted (project_of bytes)))))
 unfolding read stub project_of layout_of
-read-rows {bytes} {l} m =
+read_rows {bytes} {l} m =
     let t = m.passes in
     let s = m.sections in
     rw (le-ltb (length bytes) 36 t.header, t.not-foreign, t.not-misplaced, t.not-ragged, t.not-outsize)

@@ -48,6 +48,7 @@ pub struct Header<'a> {
 
 impl<'a> Header<'a> {
     // The header of bytes that 1, "under 36 bytes", doesn't turn down.
+    #[tactic(auto, using(crate::specs::ReadLaws::read_stub))]
     pub fn of(bytes: &'a [u8]) -> Result<Header<'a>, Refusal>
         ensures { MatchResult result (λ h. h.bytes.now ≡ bytes.now) (λ r. read bytes.now ≡ refused (number_of r)) }
     {
@@ -58,6 +59,7 @@ impl<'a> Header<'a> {
     }
 
     // The layout, where none of 2 to 5 turns the bytes down.
+    #[tactic(auto, using(crate::specs::ReadLaws::read_foreign, crate::specs::ReadLaws::read_misplaced, crate::specs::ReadLaws::read_ragged, crate::specs::ReadLaws::read_outsize, crate::specs::ReadLaws::measures))]
     pub fn layout(self) -> Result<Layout, Refusal>
         ensures { MatchResult result (Measured self.entry.bytes.now) (λ r. read self.entry.bytes.now ≡ refused (number_of r)) }
     {
@@ -77,6 +79,7 @@ impl<'a> Header<'a> {
     }
 
     // The number at a byte.
+    #[tactic(auto, unfolding(rules::specs::Project::number32))]
     fn number32(self, at: usize) -> u32
         requires { at + 4 ≤ 36 }
         ensures { result ≡ number32 self.entry.bytes.now at }
@@ -86,6 +89,7 @@ impl<'a> Header<'a> {
     }
 
     // Where a section starts.
+    #[tactic(auto, unfolding(rules::specs::Project::offset_of))]
     fn offset_of(self, s: Section) -> u32
         ensures { result ≡ offset_of self.entry.bytes.now (place_of s) }
     {
@@ -93,6 +97,7 @@ impl<'a> Header<'a> {
     }
 
     // How many bytes a section has.
+    #[tactic(auto, unfolding(rules::specs::Project::length_of))]
     fn length_of(self, s: Section) -> u32
         ensures { result ≡ length_of self.entry.bytes.now (place_of s) }
     {
@@ -100,6 +105,7 @@ impl<'a> Header<'a> {
     }
 
     // Where a section ends. The sum does not wrap: it is taken in 64 bits.
+    #[tactic(auto, unfolding(rules::specs::Project::end_of))]
     fn end_of(self, s: Section) -> u64
         ensures { result ≡ end_of self.entry.bytes.now (place_of s) }
     {
@@ -114,6 +120,7 @@ impl<'a> Header<'a> {
     }
 
     // 2, "edition not 1, or byte 3 not 0".
+    #[tactic(auto, unfolding(rules::specs::Project::foreign))]
     fn is_foreign(self) -> bool
         ensures { result ≡ foreign self.entry.bytes.now }
     {
@@ -121,6 +128,7 @@ impl<'a> Header<'a> {
     }
 
     // 3, "a pair breaks the rule above".
+    #[tactic(auto, unfolding(rules::specs::Project::misplaced))]
     fn is_misplaced(self) -> bool
         ensures { result ≡ misplaced self.entry.bytes.now }
     {
@@ -132,6 +140,7 @@ impl<'a> Header<'a> {
     }
 
     // 4, "items or imports odd in length, needs not a multiple of 3".
+    #[tactic(auto, unfolding(rules::specs::Project::ragged))]
     fn is_ragged(self) -> bool
         ensures { result ≡ ragged self.entry.bytes.now }
     {
@@ -141,6 +150,7 @@ impl<'a> Header<'a> {
     }
 
     // 5, "M, entry or a section outside its limit".
+    #[tactic(auto, unfolding(rules::specs::Project::outsize))]
     fn is_outsize(self) -> bool
         ensures { result ≡ outsize self.entry.bytes.now }
     {
@@ -155,6 +165,7 @@ impl<'a> Header<'a> {
     }
 
     // What the header says, whether or not the tests let it pass.
+    #[tactic(auto, unfolding(crate::specs::Answers::layout_of))]
     fn said(self) -> Layout
         ensures { result ≡ layout_of self.entry.bytes.now }
     {

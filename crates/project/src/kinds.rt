@@ -20,6 +20,7 @@ pub enum Kind {
 
 impl Kind {
     // Whether items of the kind are kept.
+    #[tactic(auto, unfolding(crate::specs::Kinds::kept_by))]
     pub fn is_kept(self) -> bool
         ensures { result ≡ kept_by (Some self) }
     {
@@ -27,6 +28,7 @@ impl Kind {
     }
 
     // Whether they are injected.
+    #[tactic(auto, unfolding(crate::specs::Kinds::injected_by))]
     pub fn is_injected(self) -> bool
         ensures { result ≡ injected_by (Some self) }
     {

@@ -16,6 +16,7 @@ fn bad_item(row: ItemRow, modules: u8) -> bool
 }
 
 // 7, of one row.
+#[tactic(auto, unfolding(rules::specs::Project::bad_import))]
 fn bad_import(row: ImportRow, modules: u8) -> bool
     ensures { result ≡ bad_import modules (import_in row) }
 {
@@ -25,6 +26,7 @@ fn bad_import(row: ImportRow, modules: u8) -> bool
 }
 
 // 9, of one row.
+#[tactic(auto, unfolding(rules::specs::Project::bad_need))]
 fn bad_need(row: NeedRow, items: u16) -> bool
     ensures { result ≡ bad_need items (need_in row) }
 {
