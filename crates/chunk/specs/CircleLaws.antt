@@ -14,18 +14,18 @@ use Rattle.std.proofs.lemmas.List.{length-reverse, set_at}
 use Rattle.std.proofs.Math.Seq.{drop-length, drop-cons, drop-set-lt, append_snoc}
 use borrow.Author.Tests.{eq-eqb, ne_eqb, leb-false, lt-leb}
 use Rattle.rules.specs.Lists.{cons_if, keep, any, up_from, elem, append_new, different}
-use Rattle.rules.specs.Project.{Project, module_limit, join_first, lists_from, circle_lists, bad_circles}
+use Rattle.rules.specs.Project.{Project, module_limit, circle_lists, bad_circles}
 use Rattle.rules.specs.Circles as rules
 use Rattle.rules.specs.Circles.{following, listed_with, with_found, follow_member, follow_members, follow_module, gathered_of, gather}
 use Rattle.rules.specs.Modules.{circle_of}
-use Rattle.laws.specs.Lists.{◌∈◌, false≢true, not-true, or_right, Tested, holds, fails, tested, any_false, elem-true, elem-false, true-elem, keep-∈, ∈-keep, ∈-append, Once, none, next, once-snoc, once-keep, once-length, length-parts, once-reverse, once-up_from, ∈-up_from, up_from-∈, length-up_from, append_new-old, append_new-new, ∈-append_new-right}
-use Rattle.laws.specs.Counting.{neither, Below, below-cons, below-nil, below_length}
+use Rattle.laws.specs.Lists.{◌∈◌, ∈-self, false≢true, not-true, or_right, Tested, holds, fails, tested, any_false, elem-true, elem-false, true-elem, keep-∈, ∈-keep, ∈-append, Once, none, next, once-snoc, once-keep, once-length, length-parts, once-reverse, once-up_from, ∈-up_from, up_from-∈, length-up_from, append_new-old, append_new-new, ∈-append_new-right}
+use Rattle.laws.specs.Counting.{neither, Below, EachBelow, below-cons, below-nil, below_length}
 use Rattle.laws.specs.Orders.{below-reverse}
 use Rattle.laws.specs.Accepted.{Accepted}
 use Rattle.laws.specs.Gathering.{circle-none, gather-deeper, circle-of}
 use Rattle.lists.specs.Bits.{bit}
 use Rattle.lists.specs.BitLaws.{bit-zero}
-use Rattle.project.specs.Decoded.{list_at}
+use Rattle.project.specs.CountedLaws.{circles_below}
 use Rattle.chunk.specs.declared.circles.Gathered.{Gathered}
 use Rattle.chunk.specs.declared.circles.Following.{Following}
 use Rattle.chunk.specs.Circles.{Marks, nothing, nothing_followed, gathered_on, Gathers, Grows, Appended, Listed, unnoted, unfollowed, Represents, module_followed, members_followed, FollowsModule, FollowsMembers, ModuleReady, CircleReady, CircleGathered}
@@ -175,106 +175,48 @@ sound-wider modules bound (suc left) (m ∷ bytes) h e =
     let below = leb-false modules m r.0 in
     rw (lt-leb bound m (omega arith)) (sound-wider modules bound left bytes h r.1)
 
--- The first list, of which `n` members follow, and the bytes behind it.
-record FirstList (bound n : ℕ) (bytes : List ℕ) : Type 0 where
-  within : n ≤ length bytes
-  below : Below bound (take n bytes)
-  sound : bad_circles bound 0 (drop n bytes) ≡ false
-  lists : lists_from n bytes ≡ take n bytes ∷ circle_lists (drop n bytes)
-
-first-list : (bound n : ℕ) (bytes : List ℕ) → bad_circles bound n bytes ≡ false → FirstList bound n bytes
-unfolding bad_circles lists_from join_first circle_lists
-first-list bound zero [] e = record { within = omega arith; below = below-nil; sound = e; lists = refl }
-first-list bound zero (k ∷ bytes) e = record { within = omega arith; below = below-nil; sound = e; lists = refl }
-first-list bound (suc n) [] e = absurd (false≢true (sym e))
-first-list bound (suc n) (m ∷ bytes) e =
-    let r = neither {a = leb bound m} e in
-    let f = first-list bound n bytes r.1 in
-    record {
-      within = omega (arith, f.within);
-      below = below-cons (leb-false bound m r.0) f.below;
-      sound = f.sound;
-      lists = ap (join_first m) f.lists;
-    }
-
--- Where the list ends whose count byte stands at `i`.
-abbrev pub end_at : List ℕ → ℕ → ℕ
-end_at section i = i + (1 + length (list_at section i))
-
-pub record ListAt (section : List ℕ) (i : ℕ) : Type 0 where
-  pub fits : i + 1 + get_or section i 0 ≤ length section
-  pub within : end_at section i ≤ length section
-  pub below : Below module_limit (list_at section i)
-  pub sound : bad_circles module_limit 0 (drop (end_at section i) section) ≡ false
-  pub lists : circle_lists (drop i section) ≡ list_at section i ∷ circle_lists (drop (end_at section i) section)
-
-pub list-at : (section : List ℕ) (i : ℕ) → i < length section → bad_circles module_limit 0 (drop i section) ≡ false → ListAt section i
-unfolding bad_circles circle_lists lists_from
-list-at section i h e =
-    let n : ℕ = get_or section i 0 in
-    let here : drop i section ≡ n ∷ drop (i + 1) section = rw add-one (drop-cons section i 0 h) in
-    let f = first-list module_limit n (drop (i + 1) section) (rw here at e) in
-    let fits : i + 1 + n ≤ length section = let w = f.within in omega (arith, length-drop (i + 1) section) in
-    let end : i + 1 + n ≡ end_at section i = omega (arith, length-take-le n (drop (i + 1) section) f.within) in
-    record {
-      fits = fits;
-      within = omega arith;
-      below = f.below;
-      sound = rw (drop-drop, end) at f.sound;
-      lists = rw here (rw (drop-drop, end) at f.lists);
-    }
-
--- Gathering from the lists that hold a module: what the lists from position `i` on still add makes it whole, and they are sound.
-pub record Listing (section : List ℕ) (m : ℕ) (before : List ℕ) (i : ℕ) (array : List ℕ) (g : Gathered) : Type 0 where
-  pub whole : append_new (gathered_on array g) (flatten (keep (elem m) (circle_lists (drop i section)))) ≡ listed_with (circle_lists section) m
-  pub sound : bad_circles module_limit 0 (drop i section) ≡ false
+-- Gathering from the lists that hold a module: what those that are left still add makes it whole, and their members are modules.
+pub record Listing (section : List ℕ) (m : ℕ) (before : List ℕ) (left : List (List ℕ)) (array : List ℕ) (g : Gathered) : Type 0 where
+  pub whole : append_new (gathered_on array g) (flatten (keep (elem m) left)) ≡ listed_with (circle_lists section) m
+  pub below : EachBelow module_limit left
   pub grows : Grows before array 0 g
 
 module _ (section : List ℕ) (m : ℕ) (before : List ℕ) where
   pub listing_start : {g : Gathered} → g ≡ nothing → bad_circles module_limit 0 section ≡ false → module_limit ≤ length before
-      → Listing section m before 0 before g
+      → Listing section m before (circle_lists section) before g
   unfolding listed_with different
   listing_start e b h =
-      subst⁻¹ (Listing section m before 0 before) e (record { whole = refl; sound = b; grows = grows_none (gathers-nothing h) })
+      subst⁻¹ (Listing section m before (circle_lists section) before) e
+      (record {
+        whole = refl;
+        below = circles_below module_limit section b;
+        grows = grows_none (gathers-nothing h);
+      })
 
-  module _ {i : ℕ} {array : List ℕ} {g : Gathered} (l : Listing section m before i array g) (t : ListAt section i) where
-    pub listing-held : {after : List ℕ} {r : Gathered} → elem m (list_at section i) ≡ true → Appended array after g r (list_at section i)
-        → Listing section m before (end_at section i) after r
+  module _ {left rest : List (List ℕ)} {list array : List ℕ} {g : Gathered} (l : Listing section m before left array g) (first : left ≡ list ∷ rest) where
+    split : Listing section m before (list ∷ rest) array g
+    split = subst (λ (k : List (List ℕ)). Listing section m before k array g) first l
+
+    pub listing-below : Below module_limit list
+    listing-below = split.below list ∈-self
+
+    pub listing-held : {after : List ℕ} {r : Gathered} → elem m list ≡ true → Appended array after g r list → Listing section m before rest after r
     unfolding flatten keep cons_if
     listing-held e a =
-        let k : List ℕ = flatten (keep (elem m) (circle_lists (drop (end_at section i) section))) in
+        let k : List ℕ = flatten (keep (elem m) rest) in
         record {
-          whole = ap (λ (x : List ℕ). append_new x k) a.front ∙ sym (append_new-append (gathered_on array g) (list_at section i) k)
-              ∙ rw (t.lists, e) at l.whole;
-          sound = t.sound;
-          grows = grows-trans l.grows a.grows;
+          whole = ap (λ (x : List ℕ). append_new x k) a.front ∙ sym (append_new-append (gathered_on array g) list k) ∙ rw e at split.whole;
+          below = λ x h. split.below x (Memᴰ.tail h);
+          grows = grows-trans split.grows a.grows;
         }
 
-    pub listing-other : elem m (list_at section i) ≡ false → Listing section m before (end_at section i) array g
+    pub listing-other : elem m list ≡ false → Listing section m before rest array g
     unfolding flatten keep cons_if
-    listing-other e = record { whole = rw (t.lists, e) at l.whole; sound = t.sound; grows = l.grows }
+    listing-other e = record { whole = rw e at split.whole; below = λ x h. split.below x (Memᴰ.tail h); grows = split.grows }
 
-  pub listing-end : {i : ℕ} {array : List ℕ} {g : Gathered} → length section ≤ i → Listing section m before i array g → Listed section m before array g
-  unfolding append_new circle_lists lists_from flatten keep
-  listing-end h l = record { front = rw (drop_of_length-le section h) at l.whole; grows = l.grows }
-
--- Looking for a list that holds a module: one of the section does if one from position `i` on does, and they are sound.
-pub record Looking (section : List ℕ) (m i : ℕ) : Type 0 where
-  pub same : any (elem m) (circle_lists (drop i section)) ≡ any (elem m) (circle_lists section)
-  pub sound : bad_circles module_limit 0 (drop i section) ≡ false
-
-module _ (section : List ℕ) (m i : ℕ) (s : Looking section m i) where
-  pub looking-held : ListAt section i → elem m (list_at section i) ≡ true → any (elem m) (circle_lists section) ≡ true
-  unfolding any
-  looking-held t e = sym s.same ∙ rw (t.lists, e)
-
-  pub looking-other : ListAt section i → elem m (list_at section i) ≡ false → Looking section m (end_at section i)
-  unfolding any
-  looking-other t e = record { same = rw (t.lists, e) at s.same; sound = t.sound }
-
-  pub looking-end : length section ≤ i → any (elem m) (circle_lists section) ≡ false
-  unfolding any circle_lists lists_from
-  looking-end h = sym s.same ∙ rw (drop_of_length-le section h)
+  pub listing-end : {left : List (List ℕ)} {array : List ℕ} {g : Gathered} → left ≡ [] → Listing section m before left array g → Listed section m before array g
+  unfolding append_new flatten keep
+  listing-end e l = record { front = rw e at l.whole; grows = l.grows }
 
 -- In the definition a call gathers for itself, and its caller appends what is new. It may as well be appended at once.
 found-found : (g x : List ℕ) (f : rules.Following) → with_found g (with_found x f) ≡ with_found (append_new g x) f

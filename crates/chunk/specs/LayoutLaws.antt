@@ -1,12 +1,12 @@
 -- Laying the import rows out: what holds in the midst of it, row by row, and at its end. Assumes nothing.
-use Rattle.std.specs.Prelude.{ℕ, suc, ◌+◌, ◌-◌, ◌≤◌, ◌<◌, ◌≡◌, refl, ltb, length, get_or, drop}
+use Rattle.std.specs.Prelude.{ℕ, suc, ◌+◌, ◌-◌, ◌≤◌, ◌<◌, ◌≡◌, refl, ltb, length, get_or}
 use Rattle.std.proofs.Common.{arith, sym, subst, ◌∙◌, get_or-drop, ltb-true, ltb-false}
 use Rattle.std.proofs.Math.Path.{ap}
 use mathlib.Core.List.Memᴰ
 use mathlib.Core.List.{List, [], ◌∷◌, map, zip_with}
 use Rattle.std.proofs.Math.Dec.{eqb}
 use Rattle.rules.specs.Lists.{keep, any, different}
-use Rattle.rules.specs.Project.{Import, import_row, pair_rows, import_limit, module_limit}
+use Rattle.rules.specs.Project.{Import, import_row, import_limit, module_limit}
 use Rattle.rules.specs.Modules.{imports_of}
 use Rattle.laws.specs.Lists.{∈-self, Tested, holds, fails, tested}
 use Rattle.lists.specs.Arrays.{Zeros}
@@ -14,7 +14,6 @@ use Rattle.lists.specs.BitLaws.{cell_below}
 use Rattle.lists.specs.Pairs.{Pair, pair, holds_pair, add_pairs, different_pairs, pairs_of, seconds_of, Seen, Room, Added, Onward, Linkable, Linked}
 use Rattle.lists.specs.PairLaws.{length_pairs, length-add_pair, seen_none, seen-added, store_below, different-seconds, targets-seconds}
 use Rattle.lists.specs.ChainLaws.{targets-more}
-use Rattle.project.specs.RowLaws.{pairs-at, pairs_end}
 use Rattle.chunk.specs.Imports.{FitRows, Laid}
 
 -- an import row as a pair
@@ -95,17 +94,16 @@ module _ {rows rest : List Import} {a b : ℕ} {seen from to : List ℕ} {n : �
         pairs = rw d.pairs l.pairs;
       }
 
--- the same for the row at i of a section
-module _ {rows : List Import} {seen from to : List ℕ} {n : ℕ} (section : List ℕ) (i : ℕ) (within : i + 1 < length section)
-    (l : Laying rows (pair_rows import_row (drop i section)) seen from to n) where
-  split : Laying rows (import_row (get_or section i 0) (get_or section (i + 1) 0) ∷ pair_rows import_row (drop (i + 2) section)) seen from to n
-  split = subst (λ (rest : List Import). Laying rows rest seen from to n) (pairs-at import_row section i within) l
+-- the same for the first of the rows that are left
+module _ {rows left rest : List Import} {a b : ℕ} {seen from to : List ℕ} {n : ℕ} (first : left ≡ import_row a b ∷ rest) (l : Laying rows left seen from to n) where
+  split : Laying rows (import_row a b ∷ rest) seen from to n
+  split = subst (λ (k : List Import). Laying rows k seen from to n) first l
 
-  pub laying-room : Room module_limit (get_or section i 0) (get_or section (i + 1) 0) seen from to n
+  pub laying-room : Room module_limit a b seen from to n
   laying-room = row_room split
 
-  pub laying-next : {seen' from' to' : List ℕ} {n' : ℕ} → Added module_limit (get_or section i 0) (get_or section (i + 1) 0) seen from to n seen' from' to' n'
-      → length seen' ≡ length seen → length from' ≡ length from → length to' ≡ length to → Laying rows (pair_rows import_row (drop (i + 2) section)) seen' from' to' n'
+  pub laying-next : {seen' from' to' : List ℕ} {n' : ℕ} → Added module_limit a b seen from to n seen' from' to' n'
+      → length seen' ≡ length seen → length from' ≡ length from → length to' ≡ length to → Laying rows rest seen' from' to' n'
   laying-next d e f g = row-added split d e f g
 
 pub laying-linkable : {rows rest : List Import} {seen from to : List ℕ} {n : ℕ} → Laying rows rest seen from to n → {heads next : List ℕ}
@@ -120,12 +118,11 @@ laying-linkable {from = from} l z w =
     }
 
 -- All rows are laid out and their pairs chained.
-module _ {rows : List Import} {seen from to : List ℕ} {n : ℕ} (section : List ℕ) (i : ℕ) (all : length section ≤ i + 1)
-    (laying : Laying rows (pair_rows import_row (drop i section)) seen from to n) {heads₀ next₀ heads next : List ℕ}
+module _ {rows left : List Import} {seen from to : List ℕ} {n : ℕ} (all : left ≡ []) (laying : Laying rows left seen from to n) {heads₀ next₀ heads next : List ℕ}
     (heads-size : length heads ≡ module_limit) (next-size : length next ≡ import_limit) (z : Zeros module_limit heads₀) (w : Zeros import_limit next₀)
     (k : Linked 0 from n heads₀ next₀ heads next) where
   l : Laying rows [] seen from to n
-  l = subst (λ (rest : List Import). Laying rows rest seen from to n) (pairs_end import_row section i all) laying
+  l = subst (λ (rest : List Import). Laying rows rest seen from to n) all laying
 
   next-rest : (i : ℕ) → n ≤ i → get_or next i 0 ≡ 0
   next-rest i h =

@@ -7,7 +7,7 @@ ghost use Rattle.laws.specs.Counting.{Below};
 ghost use Rattle.chunk.specs.Circles.{nothing, nothing_followed, Gathers, Appended, Listed, ModuleReady, MembersReady, FollowsModule, FollowsMembers, CircleReady, CircleGathered};
 
 use lists::bits;
-use project::sections::list_at;
+use project::reader::Lists;
 use project::{Layout, ModuleId};
 
 // The modules gathered in the first bytes of an array: as a set, and how many.
@@ -100,13 +100,10 @@ fn listed_with(section: &[u8], m: ModuleId, array: &mut [u8]) -> Gathered
     ensures { Listed section.now m.0 array.old array.new result }
 {
     let mut r = Gathered::new();
-    let mut at = 0;
-    while at < section.len() {
-        let list = list_at(section, at);
+    for list in Lists::new(section) {
         if holds(list, m) {
             r = append_new(array, r, list);
         }
-        at += 1 + list.len();
     }
     r
 }
@@ -116,13 +113,10 @@ fn is_listed(section: &[u8], m: ModuleId) -> bool
     requires { bad_circles module_limit 0 section.now ≡ false }
     ensures { result ≡ any (elem m.0) (circle_lists section.now) }
 {
-    let mut at = 0;
-    while at < section.len() {
-        let list = list_at(section, at);
+    for list in Lists::new(section) {
         if holds(list, m) {
             return true;
         }
-        at += 1 + list.len();
     }
     false
 }

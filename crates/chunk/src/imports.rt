@@ -5,7 +5,8 @@ ghost use Rattle.lists.specs.Stacks.{placed_below, Placeable, Placed};
 ghost use Rattle.chunk.specs.Imports.{FitRows, Fresh, Chains, Laid, is_open, open_of, open_imports, Members};
 
 use lists::{bits, pairs};
-use project::sections::{ImportRow, import_at};
+use project::reader::Reader;
+use project::sections::ImportRow;
 use project::{Layout, ModuleId};
 
 // The words of a set of pairs of modules, a bit for each.
@@ -20,9 +21,7 @@ pub fn lay_out(section: &[u8], to: &mut [u16], heads: &mut [u16], next: &mut [u1
     let mut seen = [0u64; PAIR_WORDS];
     let mut from = [0u16; Layout::IMPORT_ROOM];
     let mut n = 0;
-    let mut at = 0;
-    while at + 1 < section.len() {
-        let row = import_at(section, at);
+    for row in Reader::<ImportRow>::new(section) {
         n = pairs::add(
             &mut seen,
             &mut from,
@@ -32,7 +31,6 @@ pub fn lay_out(section: &[u8], to: &mut [u16], heads: &mut [u16], next: &mut [u1
             row.importer.0 as u16,
             row.imported.0 as u16,
         );
-        at += ImportRow::BYTES;
     }
     pairs::link(&from, n, heads, next);
 }

@@ -5,9 +5,7 @@ ghost use Rattle.rules.specs.Items.{kept_rows_of, given_rows};
 ghost use Rattle.split.specs.Splits.{RowsAlong, ModuleChains};
 ghost use Rattle.giving.specs.Giving.{Stored};
 
-use super::is_kept;
-use project::kinds::kind_of;
-use project::sections::{ItemRow, item_at};
+use project::sections::{ItemRow, Row};
 
 // Writes the kept rows of a module to `out` from `start` on; the place behind them. `head` begins the chain of the module's rows: an entry is one
 // more than a row, and 0 ends it.
@@ -20,7 +18,7 @@ fn write_kept(items: &[u8], next: &[u16], head: u16, out: &mut [u8], start: usiz
     let mut e = head as usize;
     while e != 0 {
         let row = e - 1;
-        if is_kept(kind_of(item_at(items, ItemRow::BYTES * row).kind)) {
+        if ItemRow::nth(items, row).kind.is_kept() {
             out[n] = row as u8;
             n += 1;
         }

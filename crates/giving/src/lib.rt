@@ -7,14 +7,13 @@ ghost use Rattle.std.specs.Prelude.{ℕ, ◌≤◌, ◌<◌, ◌≡◌, not, ◌
 ghost use Rattle.rules.specs.Lists.{any, elem};
 ghost use Rattle.rules.specs.Project.{Project, module_limit, item_row, import_row, pair_rows};
 ghost use Rattle.rules.specs.Items.{keeps_row_order};
-ghost use Rattle.project.specs.Kinds.{kept_by};
 ghost use Rattle.lists.specs.Bits.{bit};
 ghost use Rattle.giving.specs.Giving.{Members, is_importer, is_giver, giving_of, Stored, ImportersBelow, ItemsBelow, ImportersShown};
 
 use lists::bits;
 use project::ModuleId;
-use project::kinds::{Kind, kind_of};
-use project::sections::{ImportRow, ItemRow, import_at, item_at};
+use project::reader::Reader;
+use project::sections::{ImportRow, ItemRow};
 
 // The modules that import.
 pub fn importers(imports: &[u8]) -> u64
@@ -22,27 +21,10 @@ pub fn importers(imports: &[u8]) -> u64
     ensures { (m : ℕ) → bit result m ≡ any (is_importer m) (pair_rows import_row imports.now) }
 {
     let mut set = 0;
-    let mut at = 0;
-    while at + 1 < imports.len() {
-        let row = import_at(imports, at);
+    for row in Reader::<ImportRow>::new(imports) {
         set = bits::with(set, row.importer.0);
-        at += ImportRow::BYTES;
     }
     set
-}
-
-// Whether items of a kind are kept.
-pub fn is_kept(k: Kind) -> bool
-    ensures { result ≡ kept_by k }
-{
-    match k {
-        Kind::Plain => true,
-        Kind::MayDropAll => true,
-        Kind::MayDropWeak => true,
-        Kind::Injected => true,
-        Kind::Dropped => false,
-        Kind::Refused => true,
-    }
 }
 
 // The modules that have kept items.
@@ -51,13 +33,10 @@ pub fn givers(items: &[u8]) -> u64
     ensures { (m : ℕ) → bit result m ≡ any (is_giver m) (pair_rows item_row items.now) }
 {
     let mut set = 0;
-    let mut at = 0;
-    while at + 1 < items.len() {
-        let row = item_at(items, at);
-        if is_kept(kind_of(row.kind)) {
+    for row in Reader::<ItemRow>::new(items) {
+        if row.kind.is_kept() {
             set = bits::with(set, row.in_module.0);
         }
-        at += ItemRow::BYTES;
     }
     set
 }

@@ -1,5 +1,5 @@
 -- Laws of the numbers of a group's rows. Assumes nothing.
-use Rattle.std.specs.Prelude.{ℕ, zero, suc, ◌+◌, ◌-◌, ◌≤◌, ◌<◌, ◌≡◌, refl, true, false, List, [], ◌∷◌, length, get_or, take, drop, set}
+use Rattle.std.specs.Prelude.{ℕ, zero, suc, ◌+◌, ◌≤◌, ◌<◌, ◌≡◌, refl, true, false, List, [], ◌∷◌, length, get_or, take, drop, set}
 use Rattle.std.proofs.Common.{arith, add-one, sym, ap, subst, ◌∙◌, length-take, length-set, drop_of_length-le, length-take-le, drop-cons, get_or-take, get_or-set_same, get_or-set_other}
 use mathlib.Core.List.Memᴰ
 use Rattle.rules.specs.Lists.{elem}

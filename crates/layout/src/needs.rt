@@ -10,7 +10,7 @@ ghost use Rattle.layout.specs.Needs.{add_need, needs_among, NeedRoom, NeedsRoom}
 use super::numbers;
 use graph;
 use project::NodeId;
-use project::sections::{NeedRow, need_at};
+use project::sections::{NeedRow, Row};
 
 // Adds a need behind `count` different pairs, where both its items are among the first n rows; the number of pairs then. In the matrices rows from n on, and in `from` and `to` places from the new count on, are left free.
 fn add_need(
@@ -92,7 +92,7 @@ pub fn add_needs(
     let mut e = head as usize;
     while e != 0 {
         let i = e - 1;
-        let need = need_at(needs, NeedRow::BYTES * i);
+        let need = NeedRow::nth(needs, i);
         count = add_need(
             rows, n, numbers, need, words, seen, weak, reach, into, paths, from, to, count,
         );

@@ -12,7 +12,7 @@ use graph::rows::ROW_WORDS;
 use group::sort_stmts;
 use owners::{chain_needs, note_owners};
 use project::Layout;
-use project::sections::{ItemRow, NeedRow};
+use project::sections::{ItemRow, NeedRow, Row};
 use split::chains::chain_rows;
 use stmt::walk::ItemWalk;
 
@@ -116,6 +116,7 @@ fn keep_group(
 }
 
 // The turns of the groups before the first that is to be sorted; all groups where there is none.
+// The bytes are stepped by the turn's place and not by `Lists`: a turn is handed on, and the groups from it on are taken elsewhere.
 fn keep_groups(
     items: &[u8],
     next: &[u16],
@@ -165,7 +166,7 @@ fn stopped(e: group::Ending, t: Turn) -> Turns
 }
 
 // The turns of the groups from `first` on, some of them sorted. `need_heads` begins the chains of needs, by how many groups are left. The
-// slices behind `first` but `out` are working space, whose contents at the end are left free.
+// slices behind `first` but `out` are working space, whose contents at the end are left free. The bytes are stepped as in `keep_groups`.
 fn sort_turns(
     items: &[u8],
     needs: &[u8],

@@ -12,12 +12,10 @@ use Rattle.rules.specs.Lists.{cons_if, keep, any, elem}
 use Rattle.rules.specs.Project.{Need, Project, module_limit}
 use Rattle.rules.specs.Modules.{is_done}
 use Rattle.rules.specs.Items.{is_among}
-use Rattle.rules.specs.Calls.{group_bytes}
 use Rattle.laws.specs.Lists.{◌∈◌, ∈-self, false≢true, both, Tested, holds, fails, tested, elem-true}
 use Rattle.laws.specs.Counting.{neither, Below, EachBelow}
 use Rattle.lists.specs.ArrayLaws.{after-set}
 use Rattle.owners.specs.Owners.{owner_in, owner_of, key_of, or_else, owner_among, Noted, Notable, OwnersShown}
-use Rattle.owners.specs.GroupBytes.{members_at, first_below, first-within, first-members, first_past}
 
 -- The first of two owners.
 or-none : (a : ℕ) → or_else a 0 ≡ a
@@ -117,74 +115,52 @@ owner-most (g ∷ groups) m = go (tested (elem m g)) (owner-most groups m)
     go (holds e) h = rw (e, owner_in) (omega arith)
     go (fails e) h = rw (e, owner_in) (omega arith)
 
--- Noting the owners group by group: `rest` are the groups left. What they own and what is noted is what all groups own.
-pub record Noting (groups : List (List ℕ)) (bytes : List ℕ) (place left : ℕ) (owners : List ℕ) : Type 0 where
-  pub rest : List (List ℕ)
-  pub bytes_left : drop place bytes ≡ group_bytes rest
+-- Noting the owners group by group: what the groups left own and what is noted is what all groups own.
+pub record Noting (groups rest : List (List ℕ)) (left : ℕ) (owners : List ℕ) : Type 0 where
   pub left_is : left ≡ length rest
   pub left-most : left ≤ module_limit
   pub members-below : EachBelow module_limit rest
   pub same : (m : ℕ) → or_else (get_or owners m 0) (owner_in rest m) ≡ owner_in groups m
 
--- The first of the groups left.
-pub record First (groups : List (List ℕ)) (bytes : List ℕ) (place left : ℕ) (owners : List ℕ) : Type 0 where
-  pub below : place < length bytes
-  pub within : place + 1 + get_or bytes place 0 ≤ length bytes
-  pub members-below : Below module_limit (members_at bytes place)
-  pub next : {owners' : List ℕ} → Noted (members_at bytes place) left owners owners' → Noting groups bytes (place + 1 + get_or bytes place 0) (left - 1) owners'
-
-pub noting-start : {groups : List (List ℕ)} {bytes : List ℕ} {count : ℕ} {owners : List ℕ} → Notable groups bytes count owners → Noting groups bytes 0 count owners
+pub noting-start : {groups : List (List ℕ)} {bytes : List ℕ} {count : ℕ} {owners : List ℕ} → Notable groups bytes count owners
+    → Noting groups groups count owners
 unfolding or_else
 noting-start {groups} n =
     record {
-      rest = groups;
-      bytes_left = n.bytes-are;
       left_is = n.count-is;
       left-most = n.count_most;
       members-below = n.members-below;
       same = λ m. ap (λ (x : ℕ). or_else x (owner_in groups m)) (n.owners-zero.zeros m);
     }
 
-module _ {groups : List (List ℕ)} {bytes : List ℕ} {place left : ℕ} {owners : List ℕ} (s : Noting groups bytes place left owners) where
-  pub noting-first : 0 < left → First groups bytes place left owners
-  noting-first more = go s.rest s.bytes_left s.left_is s.members-below s.same
-    where
-      go : (rest : List (List ℕ)) → drop place bytes ≡ group_bytes rest → left ≡ length rest → EachBelow module_limit rest
-          → ((m : ℕ) → or_else (get_or owners m 0) (owner_in rest m) ≡ owner_in groups m) → First groups bytes place left owners
-      go [] e h below same = absurd (omega arith)
-      go (members ∷ rest) e h below same =
-          let owner : ℕ = suc (length rest) in
-          let here : members_at bytes place ≡ members = first-members bytes members rest place e in
-          record {
-            below = first_below bytes members rest place e;
-            within = first-within bytes members rest place e;
-            members-below = rw here (below members ∈-self);
-            next =
-                λ noted.
-                record {
-                  rest = rest;
-                  bytes_left = first_past bytes members rest place e;
-                  left_is = omega arith;
-                  left-most = omega (arith, s.left-most);
-                  members-below = λ g k. below g (Memᴰ.tail k);
-                  same = λ m.
-                      ap (λ (x : ℕ). or_else x (owner_in rest m))
-                      (noted m
-                      ∙ ap (λ (l : List ℕ). or_else (get_or owners m 0) (owner_among l left m)) here
-                      ∙ ap (λ (k : ℕ). or_else (get_or owners m 0) (owner_among members k m)) h)
-                      ∙ or_assoc (get_or owners m 0) (owner_among members owner m) (owner_in rest m)
-                      ∙ sym (ap (or_else (get_or owners m 0)) (owner-cons members rest m))
-                      ∙ same m;
-                };
-          }
+-- The first of the groups left.
+module _ {groups left-groups rest : List (List ℕ)} {members : List ℕ} {left : ℕ} {owners : List ℕ} (s : Noting groups left-groups left owners)
+    (first : left-groups ≡ members ∷ rest) where
+  pub noting-some : (0 < left) × (left ≤ module_limit)
+  noting-some = (omega (arith, s.left_is, ap length first), s.left-most)
 
-  pub noting-done : left ≡ 0 → length owners ≡ module_limit → OwnersShown groups owners
-  unfolding owner_in
-  noting-done e size = record { size = size; shown = λ m _. go m s.rest (omega (arith, s.left_is)) (s.same m) }
-    where
-      go : (m : ℕ) (rest : List (List ℕ)) → length rest ≡ 0 → or_else (get_or owners m 0) (owner_in rest m) ≡ owner_in groups m → get_or owners m 0 ≡ owner_in groups m
-      go m [] h same = sym (or-none (get_or owners m 0)) ∙ same
-      go m (g ∷ rest) h same = absurd (omega arith)
+  pub noting-below : Below module_limit members
+  noting-below = (rw first at s.members-below) members ∈-self
+
+  pub noting-first : {owners' : List ℕ} → Noted members left owners owners' → Noting groups rest (left - 1) owners'
+  noting-first {owners'} noted =
+      let owner : ℕ = suc (length rest) in
+      let is : left ≡ owner = omega (arith, s.left_is, ap length first) in
+      record {
+        left_is = omega (arith, is);
+        left-most = omega (arith, s.left-most);
+        members-below = λ g k. (rw first at s.members-below) g (Memᴰ.tail k);
+        same = λ m.
+            ap (λ (x : ℕ). or_else x (owner_in rest m)) (noted m ∙ ap (λ (k : ℕ). or_else (get_or owners m 0) (owner_among members k m)) is)
+            ∙ or_assoc (get_or owners m 0) (owner_among members owner m) (owner_in rest m)
+            ∙ sym (ap (or_else (get_or owners m 0)) (owner-cons members rest m))
+            ∙ (rw first at s.same) m;
+      }
+
+pub noting-done : {groups rest : List (List ℕ)} {left : ℕ} {owners : List ℕ} → Noting groups rest left owners → rest ≡ [] → length owners ≡ module_limit
+    → OwnersShown groups owners
+unfolding owner_in
+noting-done {owners = owners} s e size = record { size = size; shown = λ m _. sym (or-none (get_or owners m 0)) ∙ (rw e at s.same) m }
 
 -- A group's modules that no earlier group lists are its own.
 owner_here : (members : List ℕ) (rest : List (List ℕ)) (m : ℕ) → elem m members ≡ true → owner_in (members ∷ rest) m ≡ suc (length rest)

@@ -8,7 +8,8 @@ ghost use Rattle.laws.specs.Counting.{Below};
 ghost use Rattle.owners.specs.Owners.{or_else, Noted, Notable, OwnersShown, owner_at, RowRoom, both_own, heads_with, next_with, NeedsChainable, NeedsChained};
 
 use project::ItemId;
-use project::sections::{ItemRow, NeedRow, item_at, need_at};
+use project::reader::Lists;
+use project::sections::{ItemRow, NeedRow, Row};
 
 // The first of two owners, where 0 stands for none.
 fn or_else(a: u8, b: u8) -> u8
@@ -35,13 +36,9 @@ pub fn note_owners(bytes: &[u8], count: usize, owners: &mut [u8])
     requires { (groups : List (List ℕ)) × Notable groups bytes.now count owners.old }
     ensures { (groups : List (List ℕ)) → Notable groups bytes.now count owners.old → OwnersShown groups owners.new }
 {
-    let mut place = 0;
     let mut left = count;
-    while 0 < left {
-        let start = place + 1;
-        let end = start + bytes[place] as usize;
-        note_members(&bytes[start..end], left as u8, owners);
-        place = end;
+    for members in Lists::new(bytes) {
+        note_members(members, left as u8, owners);
         left -= 1;
     }
 }
@@ -51,8 +48,8 @@ fn owner_of(items: &[u8], owners: &[u8], item: ItemId) -> u8
     requires { RowRoom items.now owners.now item.0 }
     ensures { result ≡ owner_at items.now owners.now item.0 }
 {
-    let row = item_at(items, ItemRow::BYTES * (item.0 as usize));
-    owners[row.in_module.0 as usize]
+    let row = ItemRow::nth(items, usize::from(item));
+    owners[usize::from(row.in_module)]
 }
 
 // What two rows are both owned by, or 0.
@@ -85,10 +82,8 @@ pub fn chain_needs(items: &[u8], needs: &[u8], owners: &[u8], heads: &mut [u16],
         → NeedsChainable p groups items.now needs.now owners.now heads.old next.old
         → NeedsChained p groups needs.now next.new heads.new }
 {
-    let mut i = needs.len() / NeedRow::BYTES;
-    while 0 < i {
-        i -= 1;
-        let row = need_at(needs, NeedRow::BYTES * i);
+    for i in (0..needs.len() / NeedRow::BYTES).rev() {
+        let row = NeedRow::nth(needs, i);
         let a = owner_of(items, owners, row.dependant);
         let b = owner_of(items, owners, row.dependency);
         link_row(heads, next, i, both_own(a, b) as usize);

@@ -1,11 +1,12 @@
 pub mod Kinds
 pub mod Decoded
-pub mod Readers
 pub mod Answers
+pub mod Counted
 pub mod Sections
 pub mod Passed
 pub mod KindLaws
 pub mod DecodedLaws
 pub mod RowLaws
+pub mod CountedLaws
 pub mod SectionLaws
 pub mod ReadLaws

@@ -1,29 +1,22 @@
 -- Rows by their place in a section, for scans that go from one row to the next. Assumes nothing.
 use Prim.Native.Nat.{ℕ, zero, suc, ◌+◌, ◌-◌, ◌/◌, ◌≤◌, ◌<◌}
 use native.Mathlib.Omega.{arith}
-use Rattle.std.specs.Prelude.{◌≡◌, Bool, true, false, not, ◌||◌, eqb, leb, length, get_or, drop}
+use Rattle.std.specs.Prelude.{◌≡◌, Bool, true, not, ◌||◌, eqb, leb, length, get_or, drop}
 use Rattle.std.proofs.Math.Path.{refl}
 use mathlib.Core.List.{List, [], ◌∷◌}
 use Rattle.std.proofs.Math.Dec.{eqb-suc-zero}
 use Rattle.std.proofs.Common.{length-drop, drop_of_length-le, le-leb}
 use Rattle.std.proofs.Math.Seq.{drop-cons}
 use Rattle.std.proofs.lemmas.Bool.{lt-leb}
+use Rattle.std.specs.List.{list_any}
 use Rattle.rules.specs.Lists.{any}
 use Rattle.rules.specs.Project.{need_row, pair_rows, need_rows, bad_circles}
 
--- A test of rows, by what the first of them says.
-module _ {A : Type 0} (test : A → Bool) {x : A} {l rows : List A} (first : rows ≡ x ∷ l) where
-  pub any_here : test x ≡ true → any test rows ≡ true
-  unfolding any
-  any_here t = rw (first, t)
-
-  pub any-past : test x ≡ false → any test rows ≡ any test l
-  unfolding any
-  any-past t = rw (first, any, t)
-
-pub any_none : {A : Type 0} (test : A → Bool) {rows : List A} → rows ≡ [] → any test rows ≡ false
+-- the library's word and that of the paper's definitions
+pub any-of : {A : Type 0} (test : A → Bool) (l : List A) → list_any test l ≡ any test l
 unfolding any
-any_none test e = rw e
+any-of test [] = refl
+any-of test (x ∷ l) = rw (any-of test l)
 
 -- The rows of 2 bytes at byte i.
 module _ {A : Type 0} (row : ℕ → ℕ → A) where
@@ -39,13 +32,13 @@ module _ {A : Type 0} (row : ℕ → ℕ → A) where
   pairs-length (a ∷ []) = refl
   pairs-length (a ∷ b ∷ l) = omega (arith, pairs-length l)
 
-  pub pairs_end : (l : List ℕ) (i : ℕ) → length l ≤ i + 1 → pair_rows row (drop i l) ≡ []
-  pairs_end l i h = short-pairs (drop i l) (simp length-drop (omega arith))
+  pub pairs_none : (l : List ℕ) (i : ℕ) → length l < i + 2 → pair_rows row (drop i l) ≡ []
+  pairs_none l i h = short-pairs (drop i l) (simp length-drop (omega arith))
 
-  pub pairs-at : (l : List ℕ) (i : ℕ) → i + 1 < length l
+  pub pairs_first : (l : List ℕ) (i : ℕ) → i + 2 ≤ length l
       → pair_rows row (drop i l) ≡ row (get_or l i 0) (get_or l (i + 1) 0) ∷ pair_rows row (drop (i + 2) l)
   unfolding pair_rows
-  pairs-at l i h =
+  pairs_first l i h =
       let e : i + 1 ≡ suc i = omega arith in
       let f : i + 2 ≡ suc (suc i) = omega arith in
       rw (drop-cons l i 0 (omega arith), drop-cons l (suc i) 0 (omega arith), e, f)
@@ -58,13 +51,13 @@ short-needs (a ∷ []) h = refl
 short-needs (a ∷ b ∷ []) h = refl
 short-needs (a ∷ b ∷ c ∷ l) h = absurd (omega arith)
 
-pub needs-end : (l : List ℕ) (i : ℕ) → length l ≤ i + 2 → need_rows (drop i l) ≡ []
-needs-end l i h = short-needs (drop i l) (simp length-drop (omega arith))
+pub needs_none : (l : List ℕ) (i : ℕ) → length l < i + 3 → need_rows (drop i l) ≡ []
+needs_none l i h = short-needs (drop i l) (simp length-drop (omega arith))
 
-pub needs-at : (l : List ℕ) (i : ℕ) → i + 2 < length l
+pub needs_first : (l : List ℕ) (i : ℕ) → i + 3 ≤ length l
     → need_rows (drop i l) ≡ need_row (get_or l i 0) (get_or l (i + 1) 0) (get_or l (i + 2) 0) ∷ need_rows (drop (i + 3) l)
 unfolding need_rows
-needs-at l i h =
+needs_first l i h =
     let e : i + 1 ≡ suc i = omega arith in
     let f : i + 2 ≡ suc (suc i) = omega arith in
     let g : i + 3 ≡ suc (suc (suc i)) = omega arith in

@@ -8,7 +8,7 @@ use Rattle.laws.specs.Accepted.{sizes}
 use Rattle.project.specs.declared.Layout.{Layout}
 use Rattle.project.specs.Answers.{layout_of}
 use Rattle.project.specs.Sections.{part, Sections}
-use Rattle.project.specs.Passed.{PassesSizes, Measured}
+use Rattle.project.specs.Passed.{PassesHeader, Measured}
 use Rattle.project.specs.RowLaws.{pairs-length}
 
 -- Test 3, taken apart.
@@ -62,10 +62,10 @@ section-part : (bytes : List ℕ) (s : ℕ) {from to : ℕ} → offset_of bytes 
 unfolding section end_of
 section-part bytes s {from} {to} e f = let g : to - from ≡ length_of bytes s = omega arith in rw (g, e)
 
-pub sections : (bytes : List ℕ) → PassesSizes bytes → Sections bytes (layout_of bytes)
+pub sections : (bytes : List ℕ) → PassesHeader bytes → Sections bytes (layout_of bytes)
 unfolding layout_of end_of
 sections bytes t =
-    let at = placed bytes t.first.not-misplaced in
+    let at = placed bytes t.not-misplaced in
     let rows = whole bytes t.not-ragged in
     let most = sizes bytes t.not-outsize in
     let items : section bytes 0 ≡ part 36 (end_of bytes 0) bytes = section-part bytes 0 at.items refl in
@@ -88,5 +88,5 @@ sections bytes t =
       needs-most = omega arith;
     }
 
-pub measured : (bytes : List ℕ) {l : Layout} → PassesSizes bytes → l ≡ layout_of bytes → Measured bytes l
+pub measured : (bytes : List ℕ) {l : Layout} → PassesHeader bytes → l ≡ layout_of bytes → Measured bytes l
 measured bytes t e = record { passes = t; layout = e; sections = rw e (sections bytes t) }

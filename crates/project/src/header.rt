@@ -1,11 +1,11 @@
-// The header of a project: numbers 2 to 5 of the paper's table, and the layout. Tests are joined by `|`, as in their definitions.
-ghost use Rattle.std.specs.Prelude.{◌≡◌, not, ◌+◌, ◌*◌, ◌≤◌, eqb, length};
-ghost use Rattle.rules.specs.Project.{number32, offset_of, length_of, end_of, foreign, misplaced, ragged, outsize};
-ghost use Rattle.project.specs.Answers.{layout_of};
-ghost use Rattle.project.specs.Passed.{HasSection};
+// The header of a project: numbers 1 to 5 of the paper's table, and the layout. Tests are joined by `|`, as in their definitions.
+ghost use Rattle.std.specs.Prelude.{◌≡◌, not, ◌+◌, ◌*◌, ◌≤◌, eqb, length, MatchResult};
+ghost use Rattle.rules.specs.Project.{number32, offset_of, length_of, end_of, refused, foreign, misplaced, ragged, outsize, read};
+ghost use Rattle.project.specs.Answers.{layout_of, place_of, number_of};
+ghost use Rattle.project.specs.Passed.{Measured};
 
-use super::sections::{ImportRow, ItemRow, NeedRow};
-use super::{Layout, ModuleId};
+use super::sections::{ImportRow, ItemRow, NeedRow, Row};
+use super::{Layout, ModuleId, Refusal};
 
 // Where the first section starts, and the bytes of a row, as numbers of the header.
 const START: u32 = Layout::START as u32;
@@ -16,108 +16,165 @@ const IMPORT_BYTES: u32 = ImportRow::BYTES as u32;
 
 const NEED_BYTES: u32 = NeedRow::BYTES as u32;
 
-// Four bytes as a number, the lowest first.
-fn little_endian(a: u8, b: u8, c: u8, d: u8) -> u32
-    ensures { result ≡ a + 256 * b + 65536 * c + 16777216 * d }
-{
-    a as u32 + 256 * (b as u32) + 65536 * (c as u32) + 16777216 * (d as u32)
+// The sections, in their order.
+#[derive(Clone, Copy, PartialEq, Eq)]
+pub enum Section {
+    Items,
+    Imports,
+    Circles,
+    Needs,
 }
 
-// The number at a byte.
-fn number32(bytes: &[u8], at: usize) -> u32
-    requires { at + 4 ≤ length bytes.now }
-    ensures { result ≡ number32 bytes.now at }
-{
-    little_endian(bytes[at], bytes[at + 1], bytes[at + 2], bytes[at + 3])
+impl Section {
+    // The place of a section among the four.
+    fn place(self) -> usize
+        ensures { result ≡ place_of self }
+    {
+        match self {
+            Section::Items => 0,
+            Section::Imports => 1,
+            Section::Circles => 2,
+            Section::Needs => 3,
+        }
+    }
 }
 
-// Where section s starts: 0 items, 1 imports, 2 circles, 3 needs.
-fn offset_of(bytes: &[u8], s: usize) -> u32
-    requires { HasSection bytes.now s }
-    ensures { result ≡ offset_of bytes.now s }
-{
-    number32(bytes, 4 + 8 * s)
+// The bytes of a project, long enough for a header.
+#[derive(Clone, Copy)]
+pub struct Header<'a> {
+    bytes: &'a [u8],
+    ghost whole: { 36 ≤ length bytes.now },
 }
 
-// How many bytes section s has.
-fn length_of(bytes: &[u8], s: usize) -> u32
-    requires { HasSection bytes.now s }
-    ensures { result ≡ length_of bytes.now s }
-{
-    number32(bytes, 8 + 8 * s)
-}
+impl<'a> Header<'a> {
+    // The header of bytes that 1, "under 36 bytes", doesn't turn down.
+    #[tactic(auto, using(crate::specs::ReadLaws::read_stub))]
+    pub fn of(bytes: &'a [u8]) -> Result<Header<'a>, Refusal>
+        ensures { MatchResult result (λ h. h.bytes.now ≡ bytes.now) (λ r. read bytes.now ≡ refused (number_of r)) }
+    {
+        if bytes.len() < Layout::START {
+            return Err(Refusal::Stub);
+        }
+        Ok(Header { bytes })
+    }
 
-// Where section s ends. The sum does not wrap: it is taken in 64 bits.
-fn end_of(bytes: &[u8], s: usize) -> u64
-    requires { HasSection bytes.now s }
-    ensures { result ≡ end_of bytes.now s }
-{
-    offset_of(bytes, s) as u64 + length_of(bytes, s) as u64
-}
+    // The layout, where none of 2 to 5 turns the bytes down.
+    #[tactic(auto, using(crate::specs::ReadLaws::read_foreign, crate::specs::ReadLaws::read_misplaced, crate::specs::ReadLaws::read_ragged, crate::specs::ReadLaws::read_outsize, crate::specs::ReadLaws::measures))]
+    pub fn layout(self) -> Result<Layout, Refusal>
+        ensures { MatchResult result (Measured self.entry.bytes.now) (λ r. read self.entry.bytes.now ≡ refused (number_of r)) }
+    {
+        if self.is_foreign() {
+            return Err(Refusal::Foreign);
+        }
+        if self.is_misplaced() {
+            return Err(Refusal::Misplaced);
+        }
+        if self.is_ragged() {
+            return Err(Refusal::Ragged);
+        }
+        if self.is_outsize() {
+            return Err(Refusal::Outsize);
+        }
+        Ok(self.said())
+    }
 
-// 2, "edition not 1, or byte 3 not 0".
-pub fn foreign(bytes: &[u8]) -> bool
-    requires { 36 ≤ length bytes.now }
-    ensures { result ≡ foreign bytes.now }
-{
-    (bytes[0] != 1) | (bytes[3] != 0)
-}
+    // The number at a byte.
+    #[tactic(auto, unfolding(rules::specs::Project::number32))]
+    fn number32(self, at: usize) -> u32
+        requires { at + 4 ≤ 36 }
+        ensures { result ≡ number32 self.entry.bytes.now at }
+    {
+        let b = self.bytes;
+        u32::from_le_bytes([b[at], b[at + 1], b[at + 2], b[at + 3]])
+    }
 
-// Whether the section behind s starts elsewhere than s ends.
-fn starts_apart(bytes: &[u8], s: usize) -> bool
-    requires { HasSection bytes.now (s + 1) }
-    ensures { result ≡ not (eqb (offset_of bytes.now (s + 1)) (end_of bytes.now s)) }
-{
-    offset_of(bytes, s + 1) as u64 != end_of(bytes, s)
-}
+    // Where a section starts.
+    #[tactic(auto, unfolding(rules::specs::Project::offset_of))]
+    fn offset_of(self, s: Section) -> u32
+        ensures { result ≡ offset_of self.entry.bytes.now (place_of s) }
+    {
+        self.number32(4 + 8 * s.place())
+    }
 
-// 3, "a pair breaks the rule above".
-pub fn misplaced(bytes: &[u8]) -> bool
-    requires { 36 ≤ length bytes.now }
-    ensures { result ≡ misplaced bytes.now }
-{
-    (offset_of(bytes, 0) != START)
-        | starts_apart(bytes, 0)
-        | starts_apart(bytes, 1)
-        | starts_apart(bytes, 2)
-        | (bytes.len() as u64 != end_of(bytes, 3))
-}
+    // How many bytes a section has.
+    #[tactic(auto, unfolding(rules::specs::Project::length_of))]
+    fn length_of(self, s: Section) -> u32
+        ensures { result ≡ length_of self.entry.bytes.now (place_of s) }
+    {
+        self.number32(8 + 8 * s.place())
+    }
 
-// 4, "items or imports odd in length, needs not a multiple of 3".
-pub fn ragged(bytes: &[u8]) -> bool
-    requires { 36 ≤ length bytes.now }
-    ensures { result ≡ ragged bytes.now }
-{
-    (length_of(bytes, 0) % ITEM_BYTES != 0)
-        | (length_of(bytes, 1) % IMPORT_BYTES != 0)
-        | (length_of(bytes, 3) % NEED_BYTES != 0)
-}
+    // Where a section ends. The sum does not wrap: it is taken in 64 bits.
+    #[tactic(auto, unfolding(rules::specs::Project::end_of))]
+    fn end_of(self, s: Section) -> u64
+        ensures { result ≡ end_of self.entry.bytes.now (place_of s) }
+    {
+        self.offset_of(s) as u64 + self.length_of(s) as u64
+    }
 
-// 5, "M, entry or a section outside its limit".
-pub fn outsize(bytes: &[u8]) -> bool
-    requires { 36 ≤ length bytes.now }
-    ensures { result ≡ outsize bytes.now }
-{
-    let modules = bytes[1];
-    (modules == 0)
-        | (Layout::MODULES < modules)
-        | (modules <= bytes[2])
-        | (ITEM_BYTES * Layout::ITEMS < length_of(bytes, 0))
-        | (IMPORT_BYTES * Layout::IMPORTS < length_of(bytes, 1))
-        | (Layout::CIRCLE_BYTES < length_of(bytes, 2))
-        | (NEED_BYTES * Layout::NEEDS < length_of(bytes, 3))
-}
+    // Whether a section starts elsewhere than another ends.
+    fn starts_apart(self, s: Section, before: Section) -> bool
+        ensures { result ≡ not (eqb (offset_of self.entry.bytes.now (place_of s)) (end_of self.entry.bytes.now (place_of before))) }
+    {
+        self.offset_of(s) as u64 != self.end_of(before)
+    }
 
-// The layout that the header gives.
-pub fn layout_of(bytes: &[u8]) -> Layout
-    requires { 36 ≤ length bytes.now }
-    ensures { result ≡ layout_of bytes.now }
-{
-    Layout {
-        modules: bytes[1],
-        entry: ModuleId(bytes[2]),
-        items_end: end_of(bytes, 0) as usize,
-        imports_end: end_of(bytes, 1) as usize,
-        circles_end: end_of(bytes, 2) as usize,
+    // 2, "edition not 1, or byte 3 not 0".
+    #[tactic(auto, unfolding(rules::specs::Project::foreign))]
+    fn is_foreign(self) -> bool
+        ensures { result ≡ foreign self.entry.bytes.now }
+    {
+        (self.bytes[0] != 1) | (self.bytes[3] != 0)
+    }
+
+    // 3, "a pair breaks the rule above".
+    #[tactic(auto, unfolding(rules::specs::Project::misplaced))]
+    fn is_misplaced(self) -> bool
+        ensures { result ≡ misplaced self.entry.bytes.now }
+    {
+        (self.offset_of(Section::Items) != START)
+            | self.starts_apart(Section::Imports, Section::Items)
+            | self.starts_apart(Section::Circles, Section::Imports)
+            | self.starts_apart(Section::Needs, Section::Circles)
+            | (self.bytes.len() as u64 != self.end_of(Section::Needs))
+    }
+
+    // 4, "items or imports odd in length, needs not a multiple of 3".
+    #[tactic(auto, unfolding(rules::specs::Project::ragged))]
+    fn is_ragged(self) -> bool
+        ensures { result ≡ ragged self.entry.bytes.now }
+    {
+        (self.length_of(Section::Items) % ITEM_BYTES != 0)
+            | (self.length_of(Section::Imports) % IMPORT_BYTES != 0)
+            | (self.length_of(Section::Needs) % NEED_BYTES != 0)
+    }
+
+    // 5, "M, entry or a section outside its limit".
+    #[tactic(auto, unfolding(rules::specs::Project::outsize))]
+    fn is_outsize(self) -> bool
+        ensures { result ≡ outsize self.entry.bytes.now }
+    {
+        let modules = self.bytes[1];
+        (modules == 0)
+            | (Layout::MODULES < modules)
+            | (modules <= self.bytes[2])
+            | (ITEM_BYTES * Layout::ITEMS < self.length_of(Section::Items))
+            | (IMPORT_BYTES * Layout::IMPORTS < self.length_of(Section::Imports))
+            | (Layout::CIRCLE_BYTES < self.length_of(Section::Circles))
+            | (NEED_BYTES * Layout::NEEDS < self.length_of(Section::Needs))
+    }
+
+    // What the header says, whether or not the tests let it pass.
+    #[tactic(auto, unfolding(crate::specs::Answers::layout_of))]
+    fn said(self) -> Layout
+        ensures { result ≡ layout_of self.entry.bytes.now }
+    {
+        Layout {
+            modules: self.bytes[1],
+            entry: ModuleId(self.bytes[2]),
+            items_end: self.end_of(Section::Items) as usize,
+            imports_end: self.end_of(Section::Imports) as usize,
+            circles_end: self.end_of(Section::Circles) as usize,
+        }
     }
 }

@@ -3,26 +3,53 @@
 
 mod header;
 pub mod kinds;
-mod reader;
+pub mod reader;
 mod rows;
 pub mod sections;
 
-ghost use Rattle.std.specs.Prelude.{◌≡◌};
-ghost use Rattle.rules.specs.Project.{read};
-ghost use Rattle.project.specs.Answers.{answer_of};
-ghost use Rattle.project.specs.Passed.{Measured, PassesHeader};
+ghost use Rattle.std.specs.Prelude.{◌≡◌, MatchResult};
+ghost use Rattle.rules.specs.Project.{refused, accepted, project_of, read};
+ghost use Rattle.project.specs.Answers.{number_of, numbered, answer_of};
+ghost use Rattle.project.specs.Passed.{Measured};
+
+use header::Header;
+use sections::{ItemRow, Row};
 
 // The number of a module. Modules and items are counted separately.
-#[derive(Clone, Copy)]
+#[derive(Clone, Copy, PartialEq, Eq)]
 pub struct ModuleId(pub u8);
 
 // The number of an item: the position of its row.
-#[derive(Clone, Copy)]
+#[derive(Clone, Copy, PartialEq, Eq)]
 pub struct ItemId(pub u16);
 
 // The number that an item has within its group, as a node of the group's graph.
-#[derive(Clone, Copy)]
+#[derive(Clone, Copy, PartialEq, Eq)]
 pub struct NodeId(pub u16);
+
+impl From<ModuleId> for usize {
+    ghost from_gives = { λ m r. r ≡ m.0 };
+
+    fn from(m: ModuleId) -> usize {
+        m.0 as usize
+    }
+}
+
+impl From<ItemId> for usize {
+    ghost from_gives = { λ i r. r ≡ i.0 };
+
+    fn from(i: ItemId) -> usize {
+        i.0 as usize
+    }
+}
+
+impl From<NodeId> for usize {
+    ghost from_gives = { λ n r. r ≡ n.0 };
+
+    fn from(n: NodeId) -> usize {
+        n.0 as usize
+    }
+}
 
 // What the header of a project says. The items start at byte 36, each other section starts where the one before it ends, and the needs end
 // with the input.
@@ -64,64 +91,65 @@ impl Layout {
     pub const NEED_ROOM: usize = Self::NEEDS as usize;
 }
 
-// What reading gives: the number of the first test of the table that turns the bytes down, or the layout.
-#[derive(Clone, Copy)]
-pub enum Reading {
-    Refused(u32),
-    Accepted(Layout),
+// Why bytes are turned down, in the table's order.
+#[derive(Clone, Copy, PartialEq, Eq, Debug)]
+pub enum Refusal {
+    Stub,
+    Foreign,
+    Misplaced,
+    Ragged,
+    Outsize,
+    BadItem,
+    BadImport,
+    BadCircle,
+    BadNeed,
+}
+
+impl From<Refusal> for u32 {
+    ghost from_gives = { λ r n. n ≡ number_of r };
+
+    // The number of the table.
+    fn from(r: Refusal) -> u32 {
+        match r {
+            Refusal::Stub => 1,
+            Refusal::Foreign => 2,
+            Refusal::Misplaced => 3,
+            Refusal::Ragged => 4,
+            Refusal::Outsize => 5,
+            Refusal::BadItem => 6,
+            Refusal::BadImport => 7,
+            Refusal::BadCircle => 8,
+            Refusal::BadNeed => 9,
+        }
+    }
 }
 
 // Reads a project. Which of several faults is answered goes by the table's order.
-pub fn read(bytes: &[u8]) -> Reading
-    ensures { result ≡ answer_of bytes.now (read bytes.now) }
+pub fn read(bytes: &[u8]) -> Result<Layout, Refusal>
+    ensures { numbered result ≡ answer_of bytes.now (read bytes.now) }
 {
-    if bytes.len() < Layout::START {
-        return Reading::Refused(1);
-    }
-    if header::foreign(bytes) {
-        return Reading::Refused(2);
-    }
-    if header::misplaced(bytes) {
-        return Reading::Refused(3);
-    }
-    read_sizes(bytes)
+    let l = Header::of(bytes)?.layout()?;
+    check_rows(bytes, l)?;
+    Ok(l)
 }
 
-// Goes on from number 4.
-fn read_sizes(bytes: &[u8]) -> Reading
-    requires { PassesHeader bytes.now }
-    ensures { result ≡ answer_of bytes.now (read bytes.now) }
-{
-    if header::ragged(bytes) {
-        return Reading::Refused(4);
-    }
-    if header::outsize(bytes) {
-        return Reading::Refused(5);
-    }
-    read_rows(bytes, header::layout_of(bytes))
-}
-
-// Goes on from number 6: each section is handed on as that part of the bytes.
-fn read_rows(bytes: &[u8], l: Layout) -> Reading
+// Numbers 6 to 9: each section is handed on as that part of the bytes.
+fn check_rows(bytes: &[u8], l: Layout) -> Result<(), Refusal>
     requires { Measured bytes.now l }
-    ensures { result ≡ answer_of bytes.now (read bytes.now) }
+    ensures { MatchResult result (λ _. read bytes.now ≡ accepted (project_of bytes.now)) (λ r. read bytes.now ≡ refused (number_of r)) }
 {
-    let modules = l.modules;
-    let items_end = l.items_end;
-    let imports_end = l.imports_end;
-    let circles_end = l.circles_end;
-    if rows::bad_items(&bytes[Layout::START..items_end], modules) {
-        return Reading::Refused(6);
+    if rows::bad_items(&bytes[Layout::START..l.items_end], l.modules) {
+        return Err(Refusal::BadItem);
     }
-    if rows::bad_imports(&bytes[items_end..imports_end], modules) {
-        return Reading::Refused(7);
+    if rows::bad_imports(&bytes[l.items_end..l.imports_end], l.modules) {
+        return Err(Refusal::BadImport);
     }
-    if rows::bad_circles(&bytes[imports_end..circles_end], modules) {
-        return Reading::Refused(8);
+    if rows::bad_circles(&bytes[l.imports_end..l.circles_end], l.modules) {
+        return Err(Refusal::BadCircle);
     }
-    let items = ((items_end - Layout::START) / sections::ItemRow::BYTES) as u16;
-    if rows::bad_needs(&bytes[circles_end..], items) {
-        return Reading::Refused(9);
+    let items = ((l.items_end - Layout::START) / ItemRow::BYTES) as u16;
+    if rows::bad_needs(&bytes[l.circles_end..], items) {
+        return Err(Refusal::BadNeed);
     }
-    Reading::Accepted(l)
+    Ok(())
 }

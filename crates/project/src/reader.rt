@@ -1,153 +1,97 @@
-// Reading a section row by row, by a struct that holds its bytes and a position. Functions over such a struct are few and thin: each takes it apart and
-// leaves the work to a function on the slice and the number, which stands above it.
-ghost use Rattle.std.specs.Prelude.{◌≡◌, ◌+◌, ◌^◌, ◌≤◌, ◌<◌, length, take, drop};
-ghost use Rattle.project.specs.Readers.{width, has_row, bad_row, good_row, any_bad, reader_at, past};
+// Reading a section row by row, or list by list: a reader of rows holds the section's bytes and a position.
+ghost use Rattle.std.specs.Prelude.{◌≡◌};
+ghost use Rattle.std.specs.Iterator.{YieldsFirstBy, YieldsFirstRef, item_count};
+ghost use Rattle.rules.specs.Project.{circle_lists};
+ghost use Rattle.project.specs.Counted.{AreWhole};
 
-use super::sections::{ImportRow, ItemRow, NeedRow};
-use super::{rows, sections};
+use super::sections::Row;
+use std::marker::{Model, PhantomData};
 
-// What the rows of a section are held to: the number of modules, or of items.
-#[derive(Clone, Copy)]
-pub enum Check {
-    Items(u8),
-    Imports(u8),
-    Needs(u16),
-}
-
-// The bytes of a row.
-fn width(check: Check) -> usize
-    ensures { result ≡ width check }
-{
-    match check {
-        Check::Items(_) => ItemRow::BYTES,
-        Check::Imports(_) => ImportRow::BYTES,
-        Check::Needs(_) => NeedRow::BYTES,
-    }
-}
-
-// Whether a whole row stands at a position.
-fn has_row_at(bytes: &[u8], at: usize, check: Check) -> bool
-    requires { at ≤ length bytes.now }
-    ensures { result ≡ has_row check bytes.now at }
-{
-    at + width(check) <= bytes.len()
-}
-
-// 6, 7 or 9, of the row at a position.
-fn bad_row_at(bytes: &[u8], at: usize, check: Check) -> bool
-    requires { at + width check ≤ length bytes.now }
-    ensures { result ≡ bad_row check bytes.now at }
-{
-    let row = &bytes[at..];
-    match check {
-        Check::Items(modules) => rows::bad_item(sections::item_of(row), modules),
-        Check::Imports(modules) => rows::bad_import(sections::import_of(row), modules),
-        Check::Needs(items) => rows::bad_need(sections::need_of(row), items),
-    }
-}
-
-// Whether a whole row stands at a position, and it is not bad.
-fn good_row_at(bytes: &[u8], at: usize, check: Check) -> bool
-    requires { at ≤ length bytes.now }
-    ensures { result ≡ good_row check bytes.now at }
-{
-    if has_row_at(bytes, at, check) {
-        !bad_row_at(bytes, at, check)
-    } else {
-        false
-    }
-}
-
-// The position behind the row at a position.
-fn past_at(at: usize, check: Check) -> usize
-    requires { at + width check < 2 ^ 64 }
-    ensures { result ≡ at + width check }
-{
-    at + width(check)
-}
-
-// What is left from a position on.
-fn rest_at(bytes: &[u8], at: usize) -> &[u8]
-    requires { at ≤ length bytes.now }
-    ensures { result.now ≡ drop at bytes.now }
-{
-    &bytes[at..]
-}
-
-// The n bytes from a position on.
-fn next_bytes_at(bytes: &[u8], at: usize, n: usize) -> &[u8]
-    requires { at + n ≤ length bytes.now }
-    ensures { result.now ≡ take n (drop at bytes.now) }
-{
-    let end = at + n;
-    &bytes[at..end]
-}
-
-// The bytes of a section, and a position in them.
-#[derive(Clone, Copy)]
-pub struct Reader<'a> {
+// The rows of a section, seen as the bytes that are left.
+#[derive(Drop)]
+pub struct Reader<'a, R: Row> {
     bytes: &'a [u8],
     at: usize,
+    row: PhantomData<R>,
 }
 
-impl<'a> Reader<'a> {
-    fn new(bytes: &'a [u8], at: usize) -> Reader<'a>
-        ensures { result ≡ reader_at bytes.entry at }
-    {
-        Reader { bytes, at }
-    }
+impl<'a, R: Row> Model for Reader<'a, R> {
+    ghost use Rattle.std.specs.Prelude.{ℕ, List, ◌≤◌, length, drop};
 
-    // Whether a whole row is next, and it is not bad.
-    fn good_row(self, check: Check) -> bool
-        requires { self.at ≤ length self.bytes.now }
-        ensures { result ≡ good_row check self.entry.bytes.now self.entry.at }
-    {
-        good_row_at(self.bytes, self.at, check)
-    }
+    ghost Value = { List ℕ };
 
-    // The reader behind the next row.
-    fn past_row(self, check: Check) -> Reader<'a>
-        requires { self.at + width check < 2 ^ 64 }
-        ensures { result ≡ past self.entry check }
+    ghost view = { λ r. drop r.at r.bytes.now };
+
+    ghost invariant = { λ r. r.at ≤ length r.bytes.now };
+}
+
+impl<'a, R: Row> Reader<'a, R> {
+    pub fn new(section: &'a [u8]) -> Self
+        ensures { result ≡ section.now }
     {
         Reader {
-            bytes: self.bytes,
-            at: past_at(self.at, check),
+            bytes: section,
+            at: 0,
+            row: PhantomData,
         }
     }
+}
 
-    // What is left.
-    fn rest(self) -> &'a [u8]
-        requires { self.at ≤ length self.bytes.now }
-        ensures { result.now ≡ drop self.entry.at self.entry.bytes.now }
-    {
-        rest_at(self.bytes, self.at)
-    }
+impl<'a, R: Row> Iterator for Reader<'a, R> {
+    type Item = R;
 
-    // The next n bytes.
-    fn next_bytes(self, n: usize) -> &'a [u8]
-        requires { self.at + n ≤ length self.bytes.now }
-        ensures { result.now ≡ take n (drop self.entry.at self.entry.bytes.now) }
-    {
-        next_bytes_at(self.bytes, self.at, n)
+    ghost next_gives = { YieldsFirstBy R.paper R.rows };
+
+    ghost remaining = { item_count R.rows };
+
+    fn next(&mut self) -> Option<R> {
+        if self.bytes.len() - self.at < R::BYTES {
+            return None;
+        }
+        let row = R::decode(&self.bytes[self.at..]);
+        self.at += R::BYTES;
+        Some(row)
     }
 }
 
-// 6, 7 or 9, of a whole section. The reader goes on while rows are good: it ends at a bad row, or where no row is left. A caller has a plain slice.
-pub fn any_bad(section: &[u8], check: Check) -> bool
-    ensures { result ≡ any_bad check section.now }
-{
-    let mut rows = Reader::new(section, 0);
-    while rows.good_row(check) {
-        rows = rows.past_row(check);
-    }
-    has_row_at(rows.rest(), 0, check)
+// Lists that stand one behind the other, each a count byte and its members; seen as those that are left.
+#[derive(Drop)]
+pub struct Lists<'a> {
+    bytes: &'a [u8],
 }
 
-// The n bytes of a section from a position on: a row, or the members of a list. A caller has a plain slice here too.
-pub fn read_bytes(section: &[u8], at: usize, n: usize) -> &[u8]
-    requires { at + n ≤ length section.now }
-    ensures { result.now ≡ take n (drop at section.now) }
-{
-    Reader::new(section, at).next_bytes(n)
+impl<'a> Model for Lists<'a> {
+    ghost use Rattle.std.specs.Prelude.{ℕ, List};
+    ghost use Rattle.rules.specs.Project.{circle_lists};
+    ghost use Rattle.project.specs.Counted.{AreWhole};
+
+    ghost Value = { List (List ℕ) };
+
+    ghost view = { λ l. circle_lists l.bytes.now };
+
+    ghost invariant = { λ l. AreWhole l.bytes.now };
+}
+
+impl<'a> Lists<'a> {
+    pub fn new(bytes: &'a [u8]) -> Self
+        requires { AreWhole bytes.now }
+        ensures { result ≡ circle_lists bytes.now }
+    {
+        Lists { bytes }
+    }
+}
+
+impl<'a> Iterator for Lists<'a> {
+    type Item = &'a [u8];
+
+    ghost next_gives = { YieldsFirstRef (λ lists. lists) };
+
+    ghost remaining = { item_count (λ lists. lists) };
+
+    fn next(&mut self) -> Option<&'a [u8]> {
+        let (count, rest) = self.bytes.split_first()?;
+        let (list, rest) = rest.split_at(*count as usize);
+        self.bytes = rest;
+        Some(list)
+    }
 }

@@ -3,37 +3,21 @@
 ghost use Rattle.std.specs.Prelude.{◌≡◌};
 ghost use Rattle.rules.specs.Lists.{any};
 ghost use Rattle.rules.specs.Project.{item_row, import_row, pair_rows, need_rows, bad_item, bad_import, bad_circles, bad_need};
-ghost use Rattle.project.specs.Kinds.{is_refused};
 ghost use Rattle.project.specs.Decoded.{item_in, import_in, need_in};
 
-use super::kinds::Kind;
-use super::reader::Check;
+use super::reader::Reader;
 use super::sections::{ImportRow, ItemRow, NeedRow};
-use super::{kinds, reader};
-
-// Whether a kind byte is above 5.
-fn is_refused(k: Kind) -> bool
-    ensures { result ≡ is_refused k }
-{
-    match k {
-        Kind::Plain => false,
-        Kind::MayDropAll => false,
-        Kind::MayDropWeak => false,
-        Kind::Injected => false,
-        Kind::Dropped => false,
-        Kind::Refused => true,
-    }
-}
 
 // 6, of one row.
-pub fn bad_item(row: ItemRow, modules: u8) -> bool
+fn bad_item(row: ItemRow, modules: u8) -> bool
     ensures { result ≡ bad_item modules (item_in row) }
 {
-    (modules <= row.in_module.0) | is_refused(kinds::kind_of(row.kind))
+    (modules <= row.in_module.0) | row.kind.kind().is_none()
 }
 
 // 7, of one row.
-pub fn bad_import(row: ImportRow, modules: u8) -> bool
+#[tactic(auto, unfolding(rules::specs::Project::bad_import))]
+fn bad_import(row: ImportRow, modules: u8) -> bool
     ensures { result ≡ bad_import modules (import_in row) }
 {
     let importer = row.importer.0;
@@ -42,7 +26,8 @@ pub fn bad_import(row: ImportRow, modules: u8) -> bool
 }
 
 // 9, of one row.
-pub fn bad_need(row: NeedRow, items: u16) -> bool
+#[tactic(auto, unfolding(rules::specs::Project::bad_need))]
+fn bad_need(row: NeedRow, items: u16) -> bool
     ensures { result ≡ bad_need items (need_in row) }
 {
     let dependant = row.dependant.0;
@@ -54,33 +39,31 @@ pub fn bad_need(row: NeedRow, items: u16) -> bool
 pub fn bad_items(section: &[u8], modules: u8) -> bool
     ensures { result ≡ any (bad_item modules) (pair_rows item_row section.now) }
 {
-    reader::any_bad(section, Check::Items(modules))
+    Reader::<ItemRow>::new(section).any(|row| bad_item(row, modules))
 }
 
 // 7, "an end not below M, or equal ends".
 pub fn bad_imports(section: &[u8], modules: u8) -> bool
     ensures { result ≡ any (bad_import modules) (pair_rows import_row section.now) }
 {
-    reader::any_bad(section, Check::Imports(modules))
+    Reader::<ImportRow>::new(section).any(|row| bad_import(row, modules))
 }
 
-// 8, "a list passes the section's end, or a member not below M". `left` counts the members that the present list still lacks.
+// 8, "a list passes the section's end, or a member not below M". `left` counts the members that the present list still lacks. The last list
+// may be cut short, so that `Lists` can't take them apart.
 pub fn bad_circles(section: &[u8], modules: u8) -> bool
     ensures { result ≡ bad_circles modules 0 section.now }
 {
     let mut left: u8 = 0;
-    let mut i = 0;
-    while i < section.len() {
-        let b = section[i];
+    for b in section {
         if left == 0 {
-            left = b;
+            left = *b;
         } else {
-            if modules <= b {
+            if modules <= *b {
                 return true;
             }
             left -= 1;
         }
-        i += 1;
     }
     left != 0
 }
@@ -89,5 +72,5 @@ pub fn bad_circles(section: &[u8], modules: u8) -> bool
 pub fn bad_needs(section: &[u8], items: u16) -> bool
     ensures { result ≡ any (bad_need items) (need_rows section.now) }
 {
-    reader::any_bad(section, Check::Needs(items))
+    Reader::<NeedRow>::new(section).any(|row| bad_need(row, items))
 }

@@ -1,20 +1,87 @@
-// The rows and lists of a project's sections, decoded. The bytes are taken by a reader.
-ghost use Rattle.std.specs.Prelude.{◌≡◌, ◌+◌, ◌≤◌, ◌<◌, length, get_or};
-ghost use Rattle.rules.specs.Project.{need_bytes};
-ghost use Rattle.project.specs.Decoded.{item_row_at, import_row_at, need_row_at, list_at};
+// The rows of a project's sections, decoded.
+ghost use Rattle.std.specs.Prelude.{◌≡◌, ℕ, ◌+◌, ◌*◌, ◌≤◌, ◌<◌, List, [], ◌∷◌, length, drop};
+ghost use Rattle.std.proofs.Common.{rules};
+ghost use Rattle.rules.specs.Project.{Item, Import, Need, need_bytes, item_row, import_row, pair_rows, need_rows};
+ghost use Rattle.project.specs.Decoded.{item_row_at, import_row_at, need_row_at, item_in, import_in, need_in};
+ghost use Rattle.project.specs.DecodedLaws.{item_within, import_within, need_within};
+ghost use Rattle.project.specs.RowLaws.{pairs_first, pairs_none, needs_first, needs_none};
 
-use super::{ItemId, ModuleId, reader};
+use super::kinds::KindByte;
+use super::{ItemId, ModuleId};
+
+// What each kind of row is decoded by.
+pub trait Row: Copy {
+    // The bytes of a row.
+    const BYTES: usize;
+
+    ghost BYTES: { ℕ };
+
+    // The row at a position of a section.
+    ghost row_at: { List ℕ → ℕ → Self };
+
+    // What a row is to the paper, and all rows of a section as the paper has them.
+    ghost Paper: { Type 0 };
+
+    ghost paper: { Self → Paper };
+
+    ghost rows: { List ℕ → List Paper };
+
+    // The row that bytes begin with.
+    fn decode(bytes: &[u8]) -> Self
+        requires { BYTES ≤ length bytes.now }
+        ensures { result ≡ row_at bytes.now 0 };
+
+    ghost has_bytes: { 1 ≤ BYTES };
+
+    ghost within: { (l : List ℕ) (i : ℕ) → row_at (drop i l) 0 ≡ row_at l i };
+
+    ghost first: { (l : List ℕ) (i : ℕ) → i + BYTES ≤ length l → rows (drop i l) ≡ paper (row_at l i) ∷ rows (drop (i + BYTES) l) };
+
+    ghost none: { (l : List ℕ) (i : ℕ) → length l < i + BYTES → rows (drop i l) ≡ [] };
+
+    // The row of a number.
+    final fn nth(section: &[u8], i: usize) -> Self
+        requires { BYTES * i + BYTES ≤ length section.now }
+        ensures { result ≡ row_at section.now (BYTES * i) }
+    {
+        Self::decode(&section[Self::BYTES * i..])
+    }
+}
 
 // A row of the items.
 #[derive(Clone, Copy)]
 pub struct ItemRow {
     pub in_module: ModuleId,
-    pub kind: u8,
+    pub kind: KindByte,
 }
 
-impl ItemRow {
-    // The bytes of a row.
-    pub const BYTES: usize = 2;
+impl Row for ItemRow {
+    const BYTES: usize = 2;
+
+    ghost BYTES = { 2 };
+
+    ghost row_at = { item_row_at };
+
+    ghost Paper = { Item };
+
+    ghost paper = { item_in };
+
+    ghost rows = { pair_rows item_row };
+
+    ghost has_bytes = { Prim.search rules };
+
+    ghost within = { item_within };
+
+    ghost first = { pairs_first item_row };
+
+    ghost none = { pairs_none item_row };
+
+    fn decode(bytes: &[u8]) -> ItemRow {
+        ItemRow {
+            in_module: ModuleId(bytes[0]),
+            kind: KindByte(bytes[1]),
+        }
+    }
 }
 
 // A row of the imports.
@@ -24,9 +91,33 @@ pub struct ImportRow {
     pub imported: ModuleId,
 }
 
-impl ImportRow {
-    // The bytes of a row.
-    pub const BYTES: usize = 2;
+impl Row for ImportRow {
+    const BYTES: usize = 2;
+
+    ghost BYTES = { 2 };
+
+    ghost row_at = { import_row_at };
+
+    ghost Paper = { Import };
+
+    ghost paper = { import_in };
+
+    ghost rows = { pair_rows import_row };
+
+    ghost has_bytes = { Prim.search rules };
+
+    ghost within = { import_within };
+
+    ghost first = { pairs_first import_row };
+
+    ghost none = { pairs_none import_row };
+
+    fn decode(bytes: &[u8]) -> ImportRow {
+        ImportRow {
+            importer: ModuleId(bytes[0]),
+            imported: ModuleId(bytes[1]),
+        }
+    }
 }
 
 // A row of the needs.
@@ -37,74 +128,32 @@ pub struct NeedRow {
     pub weight: u8,
 }
 
-impl NeedRow {
-    // The bytes of a row.
-    pub const BYTES: usize = 3;
-}
+impl Row for NeedRow {
+    const BYTES: usize = 3;
 
-// The item row that bytes begin with.
-pub fn item_of(bytes: &[u8]) -> ItemRow
-    requires { 2 ≤ length bytes.now }
-    ensures { result ≡ item_row_at bytes.now 0 }
-{
-    ItemRow {
-        in_module: ModuleId(bytes[0]),
-        kind: bytes[1],
+    ghost BYTES = { need_bytes };
+
+    ghost row_at = { need_row_at };
+
+    ghost Paper = { Need };
+
+    ghost paper = { need_in };
+
+    ghost rows = { need_rows };
+
+    ghost has_bytes = { Prim.search rules };
+
+    ghost within = { need_within };
+
+    ghost first = { needs_first };
+
+    ghost none = { needs_none };
+
+    fn decode(bytes: &[u8]) -> NeedRow {
+        NeedRow {
+            dependant: ItemId(bytes[0] as u16),
+            dependency: ItemId(bytes[1] as u16),
+            weight: bytes[2],
+        }
     }
-}
-
-// The import row that bytes begin with.
-pub fn import_of(bytes: &[u8]) -> ImportRow
-    requires { 2 ≤ length bytes.now }
-    ensures { result ≡ import_row_at bytes.now 0 }
-{
-    ImportRow {
-        importer: ModuleId(bytes[0]),
-        imported: ModuleId(bytes[1]),
-    }
-}
-
-// The need row that bytes begin with.
-pub fn need_of(bytes: &[u8]) -> NeedRow
-    requires { need_bytes ≤ length bytes.now }
-    ensures { result ≡ need_row_at bytes.now 0 }
-{
-    NeedRow {
-        dependant: ItemId(bytes[0] as u16),
-        dependency: ItemId(bytes[1] as u16),
-        weight: bytes[2],
-    }
-}
-
-// The item row at a position of its section.
-pub fn item_at(section: &[u8], at: usize) -> ItemRow
-    requires { at + 2 ≤ length section.now }
-    ensures { result ≡ item_row_at section.now at }
-{
-    item_of(reader::read_bytes(section, at, ItemRow::BYTES))
-}
-
-// The import row at a position of its section.
-pub fn import_at(section: &[u8], at: usize) -> ImportRow
-    requires { at + 2 ≤ length section.now }
-    ensures { result ≡ import_row_at section.now at }
-{
-    import_of(reader::read_bytes(section, at, ImportRow::BYTES))
-}
-
-// The need row at a position of its section.
-pub fn need_at(section: &[u8], at: usize) -> NeedRow
-    requires { at + need_bytes ≤ length section.now }
-    ensures { result ≡ need_row_at section.now at }
-{
-    need_of(reader::read_bytes(section, at, NeedRow::BYTES))
-}
-
-// The members of the circle list at a position of its section: the bytes behind the count.
-pub fn list_at(section: &[u8], at: usize) -> &[u8]
-    requires { (at < length section.now) × (at + 1 + get_or section.now at 0 ≤ length section.now) }
-    ensures { result.now ≡ list_at section.now at }
-{
-    let n = section[at] as usize;
-    reader::read_bytes(section, at + 1, n)
 }

@@ -20,8 +20,8 @@ ghost use Rattle.sort.specs.Orders.{Walked, Found, Givable};
 use chunk::walk;
 use chunk::walk::{Ending, ModuleWalk};
 use order::sort_groups;
-use project::sections::ItemRow;
-use project::{Layout, Reading};
+use project::sections::{ItemRow, Row};
+use project::Layout;
 
 // The visits that an allowance of 0 stands for.
 const USUAL_ALLOWANCE: u32 = 20000;
@@ -77,10 +77,9 @@ pub fn groups(project: &[u8], reply: &mut [u8], allowance: u32) -> Numbers
     ensures answer { Answered (groups_call project.now (length reply.old) allowance) reply.old reply.new result }
     ensures guarantees { GroupsGuaranteed project.now reply.old allowance result }
 {
-    let reading = project::read(project);
-    match reading {
-        Reading::Refused(n) => refusal(n, 0, 0),
-        Reading::Accepted(l) => groups_of(project, l, reply, allowed(allowance)),
+    match project::read(project) {
+        Err(r) => refusal(r.into(), 0, 0),
+        Ok(l) => groups_of(project, l, reply, allowed(allowance)),
     }
 }
 
@@ -145,10 +144,9 @@ pub fn order(project: &[u8], reply: &mut [u8], allowance: u32) -> Numbers
     ensures answer { Answered (order_call project.now (length reply.old) allowance) reply.old reply.new result }
     ensures guarantees { OrderGuaranteed project.now reply.old allowance reply.new result }
 {
-    let reading = project::read(project);
-    match reading {
-        Reading::Refused(n) => refusal(n, 0, 0),
-        Reading::Accepted(l) => order_of(project, l, reply, allowed(allowance)),
+    match project::read(project) {
+        Err(r) => refusal(r.into(), 0, 0),
+        Ok(l) => order_of(project, l, reply, allowed(allowance)),
     }
 }
 

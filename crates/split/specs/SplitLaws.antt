@@ -5,7 +5,7 @@ use Rattle.std.proofs.Math.Numerals.{add-one, sub-one}
 use Rattle.std.specs.Prelude.{◌≡◌, Bool, ◌&&◌, ltb, take, drop, set, replicate}
 use Rattle.std.proofs.Math.Path.{refl, sym, ap}
 use Rattle.std.proofs.Common.{subst, ◌∙◌, ltb-true, ltb-false, get_or-take, get_or-append-add, drop-cons}
-use Rattle.std.proofs.Math.Bool.{true, false, not}
+use Rattle.std.proofs.Math.Bool.{true, false, not, beq}
 use mathlib.Core.List.{List, [], ◌∷◌, ◌++◌, map, flat_map, map-append}
 use Rattle.std.proofs.Math.Dec.{eqb}
 use Rattle.std.proofs.Math.ListN.{length, get_or, length-replicate, length-append, length-map, get_or-append}
@@ -22,11 +22,8 @@ use Rattle.laws.proofs.FirstList.{length-ranges}
 use Rattle.lists.specs.Pairs.{chain}
 use Rattle.lists.specs.ChainLaws.{chain-step, left, left_less}
 use Rattle.project.specs.RowLaws.{pairs-length}
-use Rattle.project.specs.Kinds.{kept_by, injected_by, Says}
-use Rattle.project.specs.declared.kinds.Kind.{Kind}
-use Rattle.project.specs.declared.kinds.Kind.TheVariants.{Plain, MayDropAll, MayDropWeak, Injected, Dropped, Refused}
 use Rattle.split.specs.Shown.{Kinds, Ranges}
-use Rattle.split.specs.Splits.{kept_as, kept_as_by, rows_as, numbered_as, RowsAlong, Numbered, RangeNoted, lows, highs, starts_in, RangesNoted, no_ranges, SplitStored}
+use Rattle.split.specs.Splits.{kept_as, rows_as, numbered_as, RowsAlong, Numbered, RangeNoted, lows, highs, starts_in, RangesNoted, no_ranges, SplitStored}
 
 -- Positions: of entries that pass equal tests, and of those that pass two.
 keep-cons_if : (test : ℕ → Bool) (b : Bool) (n : ℕ) (l : List ℕ) → keep test (cons_if b n l) ≡ cons_if (b && test n) n (keep test l)
@@ -103,21 +100,19 @@ module _ (p : Project) (m : ℕ) where
       (keep-rows of_module (λ (i : Item). kept_as injected i.kind) no_item (λ row. kept_as injected (kind_at p row)) p.items (λ i. refl)
       ∙ sym (rows_as-positions injected))
 
--- A kind's case says whether it is kept as asked.
-kept-as : (k : Kind) (injected : Bool) {kind : ℕ} → Says k kind → kept_as_by k injected ≡ kept_as injected kind
-unfolding kept_as kept_by injected_by
-kept-as Plain true s = rw (s.kept, s.injected)
-kept-as Plain false s = rw (s.kept, s.injected)
-kept-as MayDropAll true s = rw (s.kept, s.injected)
-kept-as MayDropAll false s = rw (s.kept, s.injected)
-kept-as MayDropWeak true s = rw (s.kept, s.injected)
-kept-as MayDropWeak false s = rw (s.kept, s.injected)
-kept-as Injected true s = rw (s.kept, s.injected)
-kept-as Injected false s = rw (s.kept, s.injected)
-kept-as Dropped true s = rw s.kept
-kept-as Dropped false s = rw s.kept
-kept-as Refused true s = rw (s.kept, s.injected)
-kept-as Refused false s = rw (s.kept, s.injected)
+-- The code's test of a kind.
+beq-true : (b : Bool) → beq b true ≡ b
+beq-true true = refl
+beq-true false = refl
+
+beq-false : (b : Bool) → beq b false ≡ not b
+beq-false true = refl
+beq-false false = refl
+
+pub kept-asked : (injected : Bool) (kind : ℕ) → (is_kept kind && beq (is_injected kind) injected) ≡ kept_as injected kind
+unfolding kept_as
+kept-asked true kind = rw (beq-true (is_injected kind))
+kept-asked false kind = rw (beq-false (is_injected kind))
 
 -- The rows along a module's chain, read from the items section.
 module _ {p : Project} {m : ℕ} {items next : List ℕ} {head : ℕ} (a : RowsAlong p m items next head) where
@@ -130,9 +125,9 @@ module _ {p : Project} {m : ℕ} {items next : List ℕ} {head : ℕ} (a : RowsA
   pub kind-room : (row : ℕ) → row < length p.items → 2 * row + 1 < length items
   kind-room row h = omega (arith, ap length a.section, pairs-length item_row items)
 
-  pub test_read : (injected : Bool) (row : ℕ) {k : Kind} {r : Bool} → row < length p.items → Says k (get_or items (2 * row + 1) 0)
-      → r ≡ kept_as_by k injected → kept_as injected (kind_at p row) ≡ r
-  test_read injected row {k} h says e = ap (kept_as injected) (kind-read row h) ∙ sym (kept-as k injected says) ∙ sym e
+  pub test_read : (injected : Bool) (row : ℕ) {kind : ℕ} {r : Bool} → row < length p.items → kind ≡ get_or items (2 * row + 1) 0
+      → r ≡ kept_as injected kind → kept_as injected (kind_at p row) ≡ r
+  test_read injected row h k e = ap (kept_as injected) (kind-read row h ∙ sym k) ∙ sym e
 
   -- the measure of a loop along the chain
   pub rows-less : (e : ℕ) → 0 < e → e ≤ length p.items → left (length items / 2) (get_or next (e - 1) 0) < left (length items / 2) e

@@ -7,23 +7,12 @@ use Rattle.rules.specs.Project.{Item, Project, item_limit, item_row, pair_rows}
 use Rattle.rules.specs.Items.{is_kept, is_injected, kind_at, uninjected_rows, injected_rows, numbering, Range, ranges_from, group_of, starts as starts_of}
 use Rattle.split.specs.Shown.{Kinds, Ranges}
 use Rattle.split.specs.declared.Split.{Split}
-use Rattle.project.specs.declared.kinds.Kind.{Kind}
-use Rattle.project.specs.declared.kinds.Kind.TheVariants.{Plain, MayDropAll, MayDropWeak, Injected, Dropped, Refused}
 use Rattle.lists.specs.Pairs.{chain, Onward}
 
 -- whether a kind is kept, and injected or not as asked
 unfoldable pub kept_as : Bool → ℕ → Bool
 kept_as true kind = is_kept kind && is_injected kind
 kept_as false kind = is_kept kind && not (is_injected kind)
-
--- the same of a kind's case
-abbrev pub kept_as_by : Kind → Bool → Bool
-kept_as_by Plain injected = not injected
-kept_as_by MayDropAll injected = not injected
-kept_as_by MayDropWeak injected = not injected
-kept_as_by Injected injected = injected
-kept_as_by Dropped injected = false
-kept_as_by Refused injected = not injected
 
 -- a module's kept rows that are injected, or those that are not
 unfoldable pub rows_as : Bool → Project → ℕ → List ℕ

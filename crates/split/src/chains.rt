@@ -5,19 +5,15 @@ ghost use Rattle.rules.specs.Project.{Project};
 ghost use Rattle.split.specs.RowChains.{modules_in, RowsChainable, RowsChained};
 
 use lists::pairs;
-use project::sections::{ItemRow, item_at};
+use project::sections::{ItemRow, Row};
 
 // Writes the module of each item row.
 fn write_modules(items: &[u8], module_of: &mut [u16])
     requires { length items.now / 2 ≤ length module_of.old }
     ensures { module_of.new ≡ sets module_of.old 0 (modules_in items.now) }
 {
-    let n = items.len() / ItemRow::BYTES;
-    let mut i = 0;
-    while i < n {
-        let row = item_at(items, ItemRow::BYTES * i);
-        module_of[i] = row.in_module.0 as u16;
-        i += 1;
+    for i in 0..items.len() / ItemRow::BYTES {
+        module_of[i] = ItemRow::nth(items, i).in_module.0 as u16;
     }
 }
 

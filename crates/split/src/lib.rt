@@ -8,23 +8,17 @@ ghost use Rattle.std.proofs.lemmas.List.Edits.{sets};
 ghost use Rattle.rules.specs.Lists.{up_from};
 ghost use Rattle.rules.specs.Project.{Project};
 ghost use Rattle.rules.specs.Items.{Group};
-ghost use Rattle.split.specs.Splits.{kept_as_by, rows_as, numbered_as, RowsAlong, ModuleChains, NumberRoom, Numbered, RangeRoom, RangeNoted, RangesRoom, RangesNoted, SplitRoom, Splits, SplitStored};
+ghost use Rattle.split.specs.Splits.{kept_as, rows_as, numbered_as, RowsAlong, ModuleChains, NumberRoom, Numbered, RangeRoom, RangeNoted, RangesRoom, RangesNoted, SplitRoom, Splits, SplitStored};
 ghost use Rattle.split.specs.FirstLists.{Pushed, held_by, RangesListable, Listable, FirstListed};
 
-use project::kinds::{Kind, kind_of};
+use project::kinds::KindByte;
+use project::sections::{ItemRow, Row};
 
-// Whether a kind is kept, and is injected or not as asked.
-fn is_kept_as(k: Kind, injected: bool) -> bool
-    ensures { result ≡ kept_as_by k injected }
+// Whether items of a kind are kept, and are injected or not as asked.
+fn is_kept_as(kind: KindByte, injected: bool) -> bool
+    ensures { result ≡ kept_as injected kind.0 }
 {
-    match k {
-        Kind::Plain => !injected,
-        Kind::MayDropAll => !injected,
-        Kind::MayDropWeak => !injected,
-        Kind::Injected => injected,
-        Kind::Dropped => false,
-        Kind::Refused => !injected,
-    }
+    kind.is_kept() & (kind.is_injected() == injected)
 }
 
 // Numbers the kept rows of a module that are injected, or those that are not, from `count` on; the count then. `head` begins the module's chain:
@@ -46,10 +40,10 @@ fn number_rows(
     let mut e = head as usize;
     while e != 0 {
         let row = e - 1;
-        let kind = items[2 * row + 1];
-        if is_kept_as(kind_of(kind), injected) {
+        let kind = ItemRow::nth(items, row).kind;
+        if is_kept_as(kind, injected) {
             rows[n] = row as u16;
-            kinds[n] = kind;
+            kinds[n] = kind.0;
             n += 1;
         }
         e = next[row] as usize;

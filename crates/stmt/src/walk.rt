@@ -8,13 +8,12 @@ ghost use Rattle.rules.specs.Calls.{item_list_limit};
 ghost use Rattle.lists.specs.Bits.{bit_at, Inserted};
 ghost use Rattle.lists.specs.Stacks.{stack};
 ghost use Rattle.laws.specs.Splits.{size};
-ghost use Rattle.project.specs.Kinds.{injected_by, may_drop_by};
 ghost use Rattle.stmt.specs.Walks.{Cell, Noted, Skippable, Skipped, Testable, stays as stays_open, Findable, Found, Listed, Relisted, Awaited, Pushed, Precedable, First, Fits, Room, Front, Put, Settling, Walking, Startable, Started, SameVisits, Came, Ran};
 
 use graph::rows;
 use lists::bits;
 use project::NodeId;
-use project::kinds::{Kind, kind_of};
+use project::kinds::KindByte;
 use split::{Split, first_list, push_entries};
 
 // The numbers of the walk's state: the end of the list and how many items are placed.
@@ -69,33 +68,12 @@ impl ItemWalk {
     }
 }
 
-// Whether an open dependency of an item of this kind may be dropped.
-fn may_drop(kind: Kind, weak: bool) -> bool
-    ensures { (weight : ℕ) → weak ≡ eqb weight 1 → result ≡ may_drop_by kind weight }
-{
-    match kind {
-        Kind::MayDropAll => true,
-        Kind::MayDropWeak => weak,
-        _ => false,
-    }
-}
-
-// Whether items of a kind are injected.
-fn is_injected(kind: Kind) -> bool
-    ensures { result ≡ injected_by kind }
-{
-    match kind {
-        Kind::Injected => true,
-        _ => false,
-    }
-}
-
 // Whether row a of a table of bits holds b.
 fn has_pair(words: &[u64], width: usize, a: NodeId, b: NodeId) -> bool
     requires { Cell width a.0 b.0 words.now }
     ensures { result ≡ bit_at words.now (a.0 * width + b.0) }
 {
-    bits::row_has(words, (a.0 as usize) * width + b.0 as usize)
+    bits::row_has(words, usize::from(a) * width + usize::from(b))
 }
 
 // Notes the pair (x, d) as moved; whether it had moved already.
@@ -103,7 +81,7 @@ fn note(moved: &mut [u64], width: usize, x: NodeId, d: NodeId) -> bool
     requires { Cell width x.0 d.0 moved.old }
     ensures { Noted (x.0 * width + d.0) moved.old moved.new result }
 {
-    let k = (x.0 as usize) * width + d.0 as usize;
+    let k = usize::from(x) * width + usize::from(d);
     if bits::row_has(moved, k) {
         return true;
     }
@@ -130,7 +108,7 @@ fn skips(
     if low <= d.0 && d.0 < high {
         return true;
     }
-    if is_injected(kind_of(kind)) {
+    if KindByte(kind).is_injected() {
         return false;
     }
     if !has_pair(paths, width, d, x) {
@@ -159,7 +137,7 @@ fn stays(
     if !has_pair(paths, width, d, x) {
         return true;
     }
-    !may_drop(kind_of(kind), has_pair(weak, width, x, d))
+    !KindByte(kind).may_drop(has_pair(weak, width, x, d))
 }
 
 // The dependencies of x that stay, in their order, written to `open`; how many. Notes pairs as moved.
@@ -226,7 +204,7 @@ fn is_waiting(kinds: &[u8], placed: &[u64], d: NodeId) -> bool
     ensures { result ≡ (is_injected (get_or kinds.now d.0 0) && not (bit_at placed.now d.0)) }
 {
     let i = d.0 as usize;
-    is_injected(kind_of(kinds[i])) && !bits::row_has(placed, i)
+    KindByte(kinds[i]).is_injected() && !bits::row_has(placed, i)
 }
 
 // Pushes the unplaced injected dependants of x one by one; the end then, or one more than the limit where they do not fit.
@@ -426,7 +404,7 @@ fn visit_unplaced(
         return put_open(list, open, n, w);
     }
     let at = x.0 as usize;
-    if is_injected(kind_of(kinds[at])) {
+    if KindByte(kinds[at]).is_injected() {
         return place_injected(from, heads_in, next_in, kinds, placed, order, list, w, x);
     }
     visit_uninjected(

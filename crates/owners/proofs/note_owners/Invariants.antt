@@ -1,5 +1,4 @@
--- `owners::note_owners` meets its contract. The loop's invariant: what is noted and what the groups left own is what all groups own. The measure is the
--- number of groups left. Assumes nothing.
+-- `owners::note_owners` meets its contract. The loop's invariant: what is noted and what the groups left own is what all groups own. Assumes nothing.
 use Prim.Native.Nat.{ℕ}
 use mathlib.Core.Path.{◌≡◌}
 use mathlib.Core.List.{List}
@@ -8,10 +7,9 @@ use Rattle.owners.specs.Owners.{Notable}
 use Rattle.owners.specs.OwnerLaws.{Noting}
 use Rattle.owners.proofs.note_owners.Given as goal
 
-abbrev pub invariant-loop-left : goal.invariant-loop-left
-invariant-loop-left l =
-    (length l.owners ≡ length l.initial.owners) × ((groups : List (List ℕ)) → Notable groups l.bytes l.count l.initial.owners → Noting groups l.bytes l.place l.left l.owners)
-
-abbrev pub decreases-loop-left : goal.decreases-loop-left
-decreases-loop-left l =
-    l.left
+abbrev pub invariant-loop-members : goal.invariant-loop-members
+invariant-loop-members l =
+    (goal.iterator-loop-members).can_next l.members-iterator
+    × (goal.iterator-loop-members).is_finite l.members-iterator
+    × (length l.owners ≡ length l.initial.owners)
+    × ((groups : List (List ℕ)) → Notable groups l.bytes l.count l.initial.owners → Noting groups l.members-iterator l.left l.owners)

@@ -1,4 +1,3 @@
-use mathlib.Core.Path.{sym}
 use Rattle.rules.specs.Project.{project_of}
 use Rattle.laws.proofs.Calls.{groups-of}
 use Rattle.project.specs.ReadLaws.{answer-refused, answer-accepted}
@@ -7,19 +6,19 @@ use Rattle.sort.specs.Guarantees.{groups-guaranteed}
 use Rattle.sort.proofs.groups.Goals as goal
 
 pub groups_of-requires : goal.groups_of-requires
-groups_of-requires c = answer-accepted c.args.project.now (sym c.in-Accepted.ensures)
+groups_of-requires c = answer-accepted c.args.project.now c.in-Ok.ensures
 
-pub returns-in-Refused : goal.returns-in-Refused
-returns-in-Refused c =
+pub returns-in-Err : goal.returns-in-Err
+returns-in-Err c =
     let a = c.args in
     let g = groups-guaranteed a.project.now a.reply.now a.allowance
-    (rw c.refusal.ensures (call-refused a.project.now a.reply.now a.allowance _ (answer-refused a.project.now (sym c.in-Refused.ensures)))) in
+    (rw (c.refusal.ensures, c.into.ensures) (call-refused a.project.now a.reply.now a.allowance _ (answer-refused a.project.now _ c.in-Err.ensures))) in
     record { answer = g.0; guarantees = g.1 }
 
-pub returns-in-Accepted : goal.returns-in-Accepted
-returns-in-Accepted c =
+pub returns-in-Ok : goal.returns-in-Ok
+returns-in-Ok c =
     let a = c.args in
-    let reads = (answer-accepted a.project.now (sym c.in-Accepted.ensures)).reads in
+    let reads = (answer-accepted a.project.now c.in-Ok.ensures).reads in
     let g = groups-guaranteed a.project.now a.reply.now a.allowance
     (rw (groups-of a.project.now (project_of a.project.now) reads, ← c.allowed.ensures) c.groups_of.ensures) in
     record { answer = g.0; guarantees = g.1 }

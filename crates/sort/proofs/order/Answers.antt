@@ -1,4 +1,3 @@
-use mathlib.Core.Path.{sym}
 use Rattle.rules.specs.Project.{project_of}
 use Rattle.laws.proofs.Calls.{order-of}
 use Rattle.project.specs.ReadLaws.{answer-refused, answer-accepted}
@@ -9,21 +8,21 @@ use Rattle.sort.proofs.order.Goals as goal
 pub order_of-requires : goal.order_of-requires
 order_of-requires c =
     record {
-      accepts = answer-accepted c.args.project.now (sym c.in-Accepted.ensures);
+      accepts = answer-accepted c.args.project.now c.in-Ok.ensures;
       le_allowance = rw c.allowed.ensures (allowed-most c.args.allowance);
     }
 
-pub returns-in-Refused : goal.returns-in-Refused
-returns-in-Refused c =
+pub returns-in-Err : goal.returns-in-Err
+returns-in-Err c =
     let a = c.args in
     let g = order-guaranteed a.project.now a.reply.now a.allowance
-    (rw c.refusal.ensures (order-refused a.project.now a.reply.now a.allowance _ (answer-refused a.project.now (sym c.in-Refused.ensures)))) in
+    (rw (c.refusal.ensures, c.into.ensures) (order-refused a.project.now a.reply.now a.allowance _ (answer-refused a.project.now _ c.in-Err.ensures))) in
     record { answer = g.0; guarantees = g.1 }
 
-pub returns-in-Accepted : goal.returns-in-Accepted
-returns-in-Accepted c =
+pub returns-in-Ok : goal.returns-in-Ok
+returns-in-Ok c =
     let a = c.args in
-    let reads = (answer-accepted a.project.now (sym c.in-Accepted.ensures)).reads in
+    let reads = (answer-accepted a.project.now c.in-Ok.ensures).reads in
     let g = order-guaranteed a.project.now a.reply.now a.allowance
     (rw (order-of a.project.now (project_of a.project.now) reads, ← c.allowed.ensures) c.order_of.ensures) in
     record { answer = g.0; guarantees = g.1 }

@@ -1,6 +1,7 @@
 use Prim.Native.Nat.{◌-◌, ◌≤◌, ◌<◌}
 use native.Mathlib.Omega.{arith}
-use mathlib.Core.Path.{refl, ◌∙◌}
+use mathlib.Core.Path.{refl, sym, ap, ◌∙◌}
+use Rattle.project.specs.declared.sections.ItemRow.{ItemRow}
 use lib.ListN.{length}
 use Rattle.split.specs.Splits.{RowsAlong}
 use Rattle.split.specs.SplitLaws.{kind-read, kind-room, test_read, rows-less, numbering_start, numbering-passed, numbering-room, numbering-one, numbering-end}
@@ -19,7 +20,7 @@ room : (c : Then-is_kept_as) → (c.loop-e.n < length c.loop-e.rows) × (c.loop-
 room c =
     let fits = c.requires.3 in
     let at_head = c.loop-e.invariant.2 c.requires.0 c.requires.1 c.requires.2 in
-    let test = test_read c.requires.2 c.args.injected (c.loop-e.e - 1) (omega (arith, at_head.most)) c.kind_of.ensures c.is_kept_as.ensures ∙ c.if-is_kept_as.true in
+    let test = test_read c.requires.2 c.args.injected (c.loop-e.e - 1) (omega (arith, at_head.most)) (ap (λ (r : ItemRow). r.kind.0) c.nth.ensures) c.is_kept_as.ensures ∙ c.if-is_kept_as.true in
     let below = numbering-room c.requires.2 c.args.injected at_head (omega arith) test in
     (omega (arith, fits.rows-room, c.loop-e.invariant.0), omega (arith, fits.kinds-room, c.loop-e.invariant.1))
 
@@ -28,10 +29,10 @@ loop-e-init c =
     let a = c.args in
     (refl, refl, λ p m h. numbering_start h a.injected a.count a.rows.now a.kinds.now)
 
-pub bounds-items-row : goal.bounds-items-row
-bounds-items-row c =
-    let head = (goal.at.bounds-items-row c).In-loop-e in
-    kind-room (along head) (c.loop-e.e - 1) (omega (arith, most head))
+pub nth-requires : goal.nth-requires
+nth-requires c =
+    let head = (goal.at.nth-requires c).In-loop-e in
+    omega (arith, kind-room (along head) (c.loop-e.e - 1) (omega (arith, most head)))
 
 pub bounds-rows-n : goal.bounds-rows-n
 bounds-rows-n c = (room (goal.at.bounds-rows-n c).Then-is_kept_as).0
@@ -53,9 +54,9 @@ loop-e-preserved c =
           let at_head = c.loop-e.invariant.2 p m h in
           let row = c.loop-e.e - 1 in
           let below : row < length p.items = omega (arith, at_head.most) in
-          let test = test_read h c.args.injected row below c.kind_of.ensures c.is_kept_as.ensures in
+          let test = test_read h c.args.injected row below (ap (λ (r : ItemRow). r.kind.0) c.nth.ensures) c.is_kept_as.ensures in
           elim joined.branch [
-            | then-is_kept_as w ↦ rw (w.rows-is, w.kinds-is, w.n-is) (numbering-one h c.args.injected at_head (omega arith) (test ∙ w.if-is_kept_as.true) (kind-read h row below))
+            | then-is_kept_as w ↦ rw (w.rows-is, w.kinds-is, w.n-is) (numbering-one h c.args.injected at_head (omega arith) (test ∙ w.if-is_kept_as.true) (kind-read h row below ∙ sym (ap (λ (r : ItemRow). r.kind.0) c.nth.ensures)))
             | else-is_kept_as w ↦ rw (w.rows-is, w.kinds-is, w.n-is) (numbering-passed h c.args.injected at_head (omega arith) (test ∙ w.if-is_kept_as.false))
           ],
     )

@@ -1,33 +1,26 @@
 use Rattle.std.proofs.Common.{sym, ◌∙◌}
-use Rattle.chunk.specs.CircleLaws.{ListAt, list-at, listing_start, listing-held, listing-other, listing-end}
+use Rattle.project.specs.CountedLaws.{circles_whole}
+use Rattle.chunk.specs.CircleLaws.{listing_start, listing-below, listing-held, listing-other, listing-end}
 use Rattle.chunk.proofs.circles.listed_with.Goals as goal
-use Rattle.chunk.proofs.circles.listed_with.Goals.{then-holds, else-holds, In-loop-at}
 
--- the list at the position of a turn
-here : (c : In-loop-at) → ListAt c.args.section.now c.loop-at.at
-here c = list-at c.args.section.now c.loop-at.at c.loop-at-test.true c.loop-at.invariant.sound
+pub new-list-items-requires : goal.new-list-items-requires
+new-list-items-requires c = circles_whole _ _ c.requires.section_value
 
-pub loop-at-init : goal.loop-at-init
-loop-at-init c =
-    listing_start c.args.section.now c.args.m.0 c.args.array.now c.new-r.ensures c.requires.section_value c.requires.module_limit_in_bounds
-
-pub list_at-list-requires : goal.list_at-list-requires
-list_at-list-requires c = (c.loop-at-test.true, (here (goal.at.list_at-list-requires c).In-loop-at).fits)
+pub loop-list-init : goal.loop-list-init
+loop-list-init c =
+    let started = listing_start c.args.section.now c.args.m.0 c.args.array.now c.new-r.ensures c.requires.section_value c.requires.module_limit_in_bounds in
+    (tt, tt, rw (c.into_iter-list-iterator.ensures.into_iter_gives, c.new-list-items.ensures) started)
 
 pub append_new-r-requires-clause-below : goal.append_new-r-requires-clause-below
-append_new-r-requires-clause-below c = rw c.list_at-list.ensures (here (goal.at.append_new-r-requires-clause-below c).In-loop-at).below
+append_new-r-requires-clause-below c = listing-below _ _ _ c.loop-list.invariant.2 c.in-Some.ensures.steps
 
-pub loop-at-preserved : goal.loop-at-preserved
-loop-at-preserved c =
-    let list = c.list_at-list.ensures in
-    let held = rw list at c.holds.ensures in
-    let t = here (goal.at.loop-at-preserved c).In-loop-at in
-    elim c.if-holds.branch [
-      | then-holds w ↦ rw (w.array-is, w.r-is, list)
-          (listing-held c.args.section.now c.args.m.0 c.args.array.now c.loop-at.invariant t (sym held ∙ w.if-holds.true) (rw list at w.append_new-r.ensures))
-      | else-holds w ↦ rw (w.array-is, w.r-is, list)
-          (listing-other c.args.section.now c.args.m.0 c.args.array.now c.loop-at.invariant t (sym held ∙ w.if-holds.false))
-    ]
+pub loop-list-preserved-then-holds : goal.loop-list-preserved-then-holds
+loop-list-preserved-then-holds c =
+    (tt, tt, listing-held _ _ _ c.loop-list.invariant.2 c.in-Some.ensures.steps (sym c.holds.ensures ∙ c.if-holds.true) c.append_new-r.ensures)
+
+pub loop-list-preserved : goal.loop-list-preserved
+loop-list-preserved c =
+    (tt, tt, listing-other _ _ _ c.loop-list.invariant.2 c.in-Some.ensures.steps (sym c.holds.ensures ∙ c.if-holds.false))
 
 pub returns : goal.returns
-returns c = listing-end c.args.section.now c.args.m.0 c.args.array.now c.loop-at-test.false c.loop-at.invariant
+returns c = listing-end _ _ _ c.in-None.ensures.steps.0 c.loop-list.invariant.2

@@ -1,10 +1,9 @@
--- `chunk::circles::listed_with` meets its contract. The loop's invariant says what the lists from the position on still add. Assumes nothing.
-use Rattle.std.proofs.Common.{◌-◌, length}
+-- `chunk::circles::listed_with` meets its contract. The loop's invariant says what the lists that are left still add. Assumes nothing.
 use Rattle.chunk.specs.CircleLaws.{Listing}
 use Rattle.chunk.proofs.circles.listed_with.Given as goal
 
-abbrev pub invariant-loop-at : goal.invariant-loop-at
-invariant-loop-at l = Listing l.section l.m.0 l.initial.array l.at l.array l.r
-
-abbrev pub decreases-loop-at : goal.decreases-loop-at
-decreases-loop-at l = length l.section - l.at
+abbrev pub invariant-loop-list : goal.invariant-loop-list
+invariant-loop-list l =
+    (goal.iterator-loop-list).can_next l.list-iterator
+    × (goal.iterator-loop-list).is_finite l.list-iterator
+    × Listing l.section l.m.0 l.initial.array l.list-iterator l.array l.r

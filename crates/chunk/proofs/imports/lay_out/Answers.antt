@@ -1,26 +1,24 @@
-use Rattle.std.proofs.Common.{arith, ◌∙◌}
+use Rattle.std.proofs.Common.{◌∙◌}
 use Rattle.rules.specs.Project.{import_limit, module_limit}
 use Rattle.lists.specs.ArrayLaws.{zeros-replicate}
 use Rattle.chunk.specs.LayoutLaws.{laying-start, laying-room, laying-next, laying-end}
 use Rattle.chunk.proofs.imports.lay_out.Goals as goal
 
-pub loop-at-init : goal.loop-at-init
-loop-at-init c =
-    (omega arith, laying-start c.requires.fit_rows (zeros-replicate module_limit) (zeros-replicate import_limit) c.requires.fresh.to-zeros)
+pub loop-row-init : goal.loop-row-init
+loop-row-init c =
+    let started = laying-start c.requires.fit_rows (zeros-replicate module_limit) (zeros-replicate import_limit) c.requires.fresh.to-zeros in
+    (tt, tt, rw (c.into_iter-row-iterator.ensures.into_iter_gives, c.new-row-items.ensures) started)
 
 pub add-n-requires : goal.add-n-requires
-add-n-requires c = rw c.import_at-row.ensures (laying-room c.args.section.now c.loop-at.at (omega arith) c.loop-at.invariant.1)
+add-n-requires c = laying-room c.in-Some.ensures.steps c.loop-row.invariant.2
 
-pub loop-at-preserved : goal.loop-at-preserved
-loop-at-preserved c =
-    let add = c.add-n in (
-      omega (arith, c.loop-at-test.true),
-      laying-next c.args.section.now c.loop-at.at (omega arith) c.loop-at.invariant.1 (rw c.import_at-row.ensures at add.ensures)
-          add.auto.seen add.auto.from add.auto.to,
-    )
+pub loop-row-preserved : goal.loop-row-preserved
+loop-row-preserved c =
+    let add = c.add-n in
+    (tt, tt, laying-next c.in-Some.ensures.steps c.loop-row.invariant.2 add.ensures add.auto.seen add.auto.from add.auto.to)
 
 pub returns : goal.returns
 returns c =
     let fresh = c.requires.fresh in
-    laying-end c.args.section.now c.loop-at.at (omega (arith, c.loop-at-test.false)) c.loop-at.invariant.1
+    laying-end c.in-None.ensures.steps.0 c.loop-row.invariant.2
     (c.link.auto.heads ∙ fresh.heads-zeros.size) (c.link.auto.next ∙ fresh.next-zeros.size) fresh.heads-zeros fresh.next-zeros c.link.ensures

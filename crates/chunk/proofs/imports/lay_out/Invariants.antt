@@ -1,13 +1,10 @@
--- `chunk::imports::lay_out` meets its contract. The loop's invariant: the rows before the position are laid out. The measure is what is left of the section.
--- Assumes nothing.
-use Rattle.std.proofs.Common.{◌-◌, ◌≤◌, length, drop}
+-- `chunk::imports::lay_out` meets its contract. The loop's invariant: the rows before those that are left are laid out. Assumes nothing.
 use Rattle.rules.specs.Project.{import_row, pair_rows}
 use Rattle.chunk.specs.LayoutLaws.{Laying}
 use Rattle.chunk.proofs.imports.lay_out.Given as goal
 
-abbrev pub invariant-loop-at : goal.invariant-loop-at
-invariant-loop-at l =
-    (l.at ≤ length l.section) × Laying (pair_rows import_row l.section) (pair_rows import_row (drop l.at l.section)) l.seen l.from l.to l.n
-
-abbrev pub decreases-loop-at : goal.decreases-loop-at
-decreases-loop-at l = length l.section - l.at
+abbrev pub invariant-loop-row : goal.invariant-loop-row
+invariant-loop-row l =
+    (goal.iterator-loop-row).can_next l.row-iterator
+    × (goal.iterator-loop-row).is_finite l.row-iterator
+    × Laying (pair_rows import_row l.section) (pair_rows import_row l.row-iterator) l.seen l.from l.to l.n

@@ -3,6 +3,7 @@ use native.Mathlib.Omega.{arith}
 use mathlib.Core.Path.{◌≡◌, refl, sym, ap, ◌∙◌}
 use lib.ListN.{length}
 use Rattle.rules.specs.Project.{Project}
+use Rattle.project.specs.declared.sections.ItemRow.{ItemRow}
 use Rattle.rules.specs.Items.{is_kept, kind_at, kept_rows_of}
 use Rattle.split.specs.Splits.{RowsAlong}
 use Rattle.split.specs.SplitLaws.{kind-read, kind-room, rows-less}
@@ -23,16 +24,16 @@ kept_here : (c : After-is_kept) (p : Project) (m : ℕ) → RowsAlong p m c.args
     → is_kept (kind_at p (c.loop-e.e - 1)) ≡ c.is_kept.result
 kept_here c p m h =
     ap is_kept (kind-read h (c.loop-e.e - 1) (omega (arith, (c.loop-e.invariant.1 p m h).0)))
-    ∙ (rw c.item_at.ensures at c.kind_of.ensures.kept) ∙ sym c.is_kept.ensures
+    ∙ sym (ap (λ (r : ItemRow). is_kept r.kind.0) c.nth.ensures) ∙ sym c.is_kept.ensures
 
 pub loop-e-init : goal.loop-e-init
 loop-e-init c =
     let a = c.args in
     (refl, λ p m h. (h.head-most, storing-as (storing-start (kept_rows_of p m) a.start a.out.now) (sym (kept-start h))))
 
-pub item_at-requires : goal.item_at-requires
-item_at-requires c =
-    let head = (goal.at.item_at-requires c).In-loop-e in
+pub nth-requires : goal.nth-requires
+nth-requires c =
+    let head = (goal.at.nth-requires c).In-loop-e in
     omega (arith, kind-room (along head) (c.loop-e.e - 1) (omega (arith, most head)))
 
 pub bounds-out-n : goal.bounds-out-n

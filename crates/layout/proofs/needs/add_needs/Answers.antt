@@ -3,13 +3,8 @@ use Rattle.graph.specs.Graph.{matrices}
 use Rattle.layout.specs.NeedLaws.{needs-less, adding-room, adding-next, adding-end}
 use Rattle.layout.proofs.needs.add_needs.Goals as goal
 
-pub overflow_mul-i : goal.overflow_mul-i
-overflow_mul-i c =
-    let known = c.requires.needs_along in
-    omega (arith, known.1.most, (c.loop-e.invariant _ known.1 known.2).most)
-
-pub need_at-need-requires : goal.need_at-need-requires
-need_at-need-requires c =
+pub nth-need-requires : goal.nth-need-requires
+nth-need-requires c =
     let known = c.requires.needs_along in
     omega (arith, known.1.within, (c.loop-e.invariant _ known.1 known.2).most)
 
@@ -40,7 +35,7 @@ loop-e-preserved c =
     let s = c.loop-e.invariant own a r in
     let more : 0 < c.loop-e.e = omega arith in
     let new = c.add_need-count.new in
-    adding-next a s more {m' = matrices new.seen new.weak new.reach new.into new.paths} c.need_at-need.ensures
+    adding-next a s more {m' = matrices new.seen new.weak new.reach new.into new.paths} c.nth-need.ensures
     (c.add_need-count.ensures s.graph (adding-room a s more (omega (arith, r.from-room)) (omega (arith, r.to_room))))
 
 pub returns : goal.returns

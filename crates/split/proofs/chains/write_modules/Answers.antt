@@ -7,7 +7,7 @@ use Rattle.split.proofs.chains.write_modules.Goals as goal
 pub loop-i-preserved : goal.loop-i-preserved
 loop-i-preserved c =
     let a = c.args in
-    (simp length-set c.loop-i.invariant.0, rw c.item_at-row.ensures (modules-turn a.items.now c.loop-i.module_of c.loop-i.i (omega arith) ∙ c.loop-i.invariant.1))
+    (simp length-set c.loop-i.invariant.0, rw c.nth.ensures (modules-turn a.items.now c.loop-i.module_of c.loop-i.i (omega arith) ∙ c.loop-i.invariant.1))
 
 pub returns : goal.returns
 returns c =

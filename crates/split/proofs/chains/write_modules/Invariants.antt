@@ -1,6 +1,5 @@
 -- `split::chains::write_modules` meets its contract. The loop's invariant: with the modules of the rows from i on stored the array is as it is to be.
--- The measure is the number of rows left. Assumes nothing.
-use Prim.Native.Nat.{◌-◌, ◌/◌}
+-- Assumes nothing.
 use mathlib.Core.Path.{◌≡◌}
 use lib.ListN.{length, drop}
 use lib.Seq.{sets}
@@ -10,7 +9,3 @@ use Rattle.split.proofs.chains.write_modules.Given as goal
 abbrev pub invariant-loop-i : goal.invariant-loop-i
 invariant-loop-i l =
     (length l.module_of ≡ length l.initial.module_of) × (sets l.module_of l.i (drop l.i (modules_in l.items)) ≡ sets l.initial.module_of 0 (modules_in l.items))
-
-abbrev pub decreases-loop-i : goal.decreases-loop-i
-decreases-loop-i l =
-    length l.items / 2 - l.i

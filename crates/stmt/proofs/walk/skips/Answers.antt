@@ -15,17 +15,17 @@ outside d r e = ⊎_elim (λ k. range-behind d r k.0 k.1) (λ k. range-before d 
 pub returns-then-is_injected : goal.returns-then-is_injected
 returns-then-is_injected c g pairs s =
     passed-injected s (outside c.args.d.0 s.range-is c.else-low-d.either)
-    (c.kind_of.ensures.injected ∙ sym c.is_injected.ensures ∙ c.if-is_injected.true)
+    (sym c.is_injected.ensures ∙ c.if-is_injected.true)
 
 pub returns-then-not-has_pair : goal.returns-then-not-has_pair
 returns-then-not-has_pair c g pairs s =
     passed-pathless s (outside c.args.d.0 s.range-is c.else-low-d.either)
-    (c.kind_of.ensures.injected ∙ sym c.is_injected.ensures ∙ c.if-is_injected.false)
+    (sym c.is_injected.ensures ∙ c.if-is_injected.false)
     (sym (s.paths-shown.bits c.args.d.0 c.args.x.0 s.d-below s.x_below) ∙ sym c.has_pair.ensures ∙ c.if-not-has_pair.true)
 
 pub returns : goal.returns
 returns c g pairs s =
     skipped-noted s (outside c.args.d.0 s.range-is c.else-low-d.either)
-    (c.kind_of.ensures.injected ∙ sym c.is_injected.ensures ∙ c.if-is_injected.false)
+    (sym c.is_injected.ensures ∙ c.if-is_injected.false)
     (sym (s.paths-shown.bits c.args.d.0 c.args.x.0 s.d-below s.x_below) ∙ sym c.has_pair.ensures ∙ c.if-not-has_pair.false)
     c.note.ensures

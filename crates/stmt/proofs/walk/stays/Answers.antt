@@ -18,4 +18,4 @@ returns c g items t =
     sym
     (stays-undropped t (sym c.row_has.ensures ∙ c.if-row_has.false)
     (sym c.has_pair.ensures ∙ c.if-not-has_pair.false)
-    (λ weight e. c.may_drop.ensures weight (c.has_pair-2.ensures ∙ e) ∙ sym (c.kind_of.ensures.drops weight)))
+    (λ weight e. c.may_drop.ensures weight (c.has_pair-2.ensures ∙ e)))

@@ -28,7 +28,7 @@ place_injected-requires c = let r = c.requires in (r.0, r.1, r.2, awaited r.4 r.
 pub returns-then-is_injected : goal.returns-then-is_injected
 returns-then-is_injected c g rest items pairs new h =
     visit-injected new h (c.find_open-n.ensures g items pairs (findable new h)) (omega arith)
-    (c.kind_of.ensures.injected ∙ sym c.is_injected.ensures ∙ c.if-is_injected.true)
+    (sym c.is_injected.ensures ∙ c.if-is_injected.true)
     (c.place_injected.ensures g rest items (awaited new h) (front new h))
 
 pub bounds-low-at : goal.bounds-low-at
@@ -42,7 +42,7 @@ visit_uninjected-requires c =
       r.1,
       r.2,
       f.after,
-      settling r.4 r.5 f (omega arith) (c.kind_of.ensures.injected ∙ sym c.is_injected.ensures ∙ c.if-is_injected.false),
+      settling r.4 r.5 f (omega arith) (sym c.is_injected.ensures ∙ c.if-is_injected.false),
       r.6,
     )
 
@@ -50,5 +50,5 @@ pub returns : goal.returns
 returns c g rest items pairs new h =
     let f = c.find_open-n.ensures g items pairs (findable new h) in
     let nothing : c.find_open-n.result ≡ 0 = omega arith in
-    let other : is_injected (get_or c.args.kinds.now c.args.x.0 0) ≡ false = c.kind_of.ensures.injected ∙ sym c.is_injected.ensures ∙ c.if-is_injected.false in
+    let other : is_injected (get_or c.args.kinds.now c.args.x.0 0) ≡ false = sym c.is_injected.ensures ∙ c.if-is_injected.false in
     visit-uninjected new h f nothing other (c.visit_uninjected.ensures g rest items f.after (settling new h f nothing other))
