@@ -1,3 +1,1 @@
 pub mod ImportLaws
-pub mod VisitLaws
-pub mod CameLaws

@@ -2,5 +2,6 @@
 #![tactic(auto)]
 
 mod circles;
+mod gathered;
 mod imports;
-pub mod walk;
+mod open;

@@ -35,6 +35,7 @@ pub struct Chains<const KEYS: usize, const PLACES: usize> {
     pub heads: [u16; KEYS],
     pub next: [u16; PLACES],
     pub ghost ascends: { Ascends heads next },
+    pub ghost sizes: { (length heads ≡ KEYS) × (length next ≡ PLACES) },
 }
 
 impl<const KEYS: usize, const PLACES: usize> Chains<KEYS, PLACES> {

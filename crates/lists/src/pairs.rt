@@ -1,5 +1,5 @@
 // Different pairs of numbers in the order in which they were first added, and for each first number the chain of its pairs.
-ghost use Rattle.std.specs.Prelude.{ℕ, ◌≤◌, ◌<◌, ◌≡◌, get_or, take, drop};
+ghost use Rattle.std.specs.Prelude.{ℕ, ◌≤◌, ◌<◌, ◌≡◌, length, get_or, take, drop};
 ghost use Rattle.lists.specs.Pairs.{Room, Added, Linkable, Linked};
 
 use super::bits;
@@ -50,6 +50,7 @@ pub struct Pairs<const WORDS: usize, const PLACES: usize> {
     pub to: [u16; PLACES],
     pub count: usize,
     pub ghost within: { count ≤ PLACES },
+    pub ghost sizes: { (length seen ≡ WORDS) × (length from ≡ PLACES) × (length to ≡ PLACES) },
 }
 
 impl<const WORDS: usize, const PLACES: usize> Pairs<WORDS, PLACES> {

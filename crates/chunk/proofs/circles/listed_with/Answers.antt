@@ -8,14 +8,13 @@ here : (c : In-loop-at) → ListAt c.args.section.now c.loop-at.at
 here c = list-at c.args.section.now c.loop-at.at c.loop-at-test.true c.loop-at.invariant.sound
 
 pub loop-at-init : goal.loop-at-init
-loop-at-init c =
-    listing_start c.args.section.now c.args.m.0 c.args.array.now c.new-r.ensures c.requires.section_value c.requires.module_limit_in_bounds
+loop-at-init c = listing_start c.args.section.now c.args.m.0 c.new-r.result c.new-r.ensures c.requires
 
 pub list_at-list-requires : goal.list_at-list-requires
 list_at-list-requires c = (c.loop-at-test.true, (here (goal.at.list_at-list-requires c).In-loop-at).fits)
 
-pub append_new-r-requires-clause-below : goal.append_new-r-requires-clause-below
-append_new-r-requires-clause-below c = rw c.list_at-list.ensures (here (goal.at.append_new-r-requires-clause-below c).In-loop-at).below
+pub append_new-requires : goal.append_new-requires
+append_new-requires c = rw c.list_at-list.ensures (here (goal.at.append_new-requires c).In-loop-at).below
 
 pub loop-at-preserved : goal.loop-at-preserved
 loop-at-preserved c =
@@ -23,11 +22,11 @@ loop-at-preserved c =
     let held = rw list at c.holds.ensures in
     let t = here (goal.at.loop-at-preserved c).In-loop-at in
     elim c.if-holds.branch [
-      | then-holds w ↦ rw (w.array-is, w.r-is, list)
-          (listing-held c.args.section.now c.args.m.0 c.args.array.now c.loop-at.invariant t (sym held ∙ w.if-holds.true) (rw list at w.append_new-r.ensures))
-      | else-holds w ↦ rw (w.array-is, w.r-is, list)
-          (listing-other c.args.section.now c.args.m.0 c.args.array.now c.loop-at.invariant t (sym held ∙ w.if-holds.false))
+      | then-holds w ↦ rw (w.r-is, list)
+          (listing-held c.args.section.now c.args.m.0 c.loop-at.invariant t (sym held ∙ w.if-holds.true) (rw list at w.append_new.ensures))
+      | else-holds w ↦ rw (w.r-is, list)
+          (listing-other c.args.section.now c.args.m.0 c.loop-at.invariant t (sym held ∙ w.if-holds.false))
     ]
 
 pub returns : goal.returns
-returns c = listing-end c.args.section.now c.args.m.0 c.args.array.now c.loop-at-test.false c.loop-at.invariant
+returns c = listing-end c.args.section.now c.args.m.0 c.loop-at-test.false c.loop-at.invariant

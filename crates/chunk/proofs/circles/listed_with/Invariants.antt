@@ -4,7 +4,7 @@ use Rattle.chunk.specs.CircleLaws.{Listing}
 use Rattle.chunk.proofs.circles.listed_with.Given as goal
 
 abbrev pub invariant-loop-at : goal.invariant-loop-at
-invariant-loop-at l = Listing l.section l.m.0 l.initial.array l.at l.array l.r
+invariant-loop-at l = Listing l.section l.m.0 l.at l.r
 
 abbrev pub decreases-loop-at : goal.decreases-loop-at
 decreases-loop-at l = length l.section - l.at
