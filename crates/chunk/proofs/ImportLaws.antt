@@ -1,5 +1,5 @@
 -- Laws of open imports: of one module, member by member, and by the definitions of the walk. Assumes nothing.
-use Rattle.std.specs.Prelude.{ℕ, ◌+◌, ◌-◌, ◌*◌, ◌≤◌, ◌<◌, ◌≡◌, Bool, true, false, ◌&&◌, length, drop}
+use Rattle.std.specs.Prelude.{ℕ, ◌+◌, ◌*◌, ◌≤◌, ◌<◌, ◌≡◌, Bool, ◌&&◌, length, drop}
 use Rattle.std.proofs.Common.{arith, add-one, ◌∙◌, drop_of_length-le, length-append}
 use Rattle.std.proofs.Math.Path.{refl, sym, ap}
 use Rattle.std.proofs.Math.Bool.{not, and-true}

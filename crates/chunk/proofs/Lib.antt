@@ -1,1 +1,3 @@
 pub mod ImportLaws
+pub mod VisitLaws
+pub mod CameLaws

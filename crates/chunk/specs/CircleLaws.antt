@@ -5,21 +5,21 @@ use Rattle.std.proofs.Math.Numerals.{add-one}
 use Rattle.std.specs.Prelude.{◌≡◌, Bool, true, false, ◌||◌, leb, drop, set, get_or}
 use Rattle.std.specs.List.{list_any}
 use Rattle.std.proofs.Math.Path.{refl, sym, ap, ap₂, subst⁻¹}
-use Rattle.std.proofs.Common.{subst, ◌∙◌, ⊎_elim, length-append, length-drop, drop_of_length-le, length-take-le, take_at, drop_at, take-suc, take_all, take-suc-set, drop-drop}
+use Rattle.std.proofs.Common.{subst, ◌∙◌, ⊎_elim, length-append, length-drop, drop_of_length-le, length-take-le, take_at, take-suc, take_all, take-suc-set, drop-drop}
 use Rattle.std.proofs.Math.Bool.{not}
 use mathlib.Core.List.Memᴰ
 use mathlib.Core.List.{List, [], ◌∷◌, ◌++◌, reverse, reverse-cons, flatten}
 use Rattle.std.proofs.Math.Dec.{eqb}
-use Rattle.std.proofs.Math.ListN.{length, take, length-set}
-use Rattle.std.proofs.lemmas.List.{length-reverse, set_at}
-use Rattle.std.proofs.Math.Seq.{drop-length, drop-cons, drop-set-lt, append_snoc}
-use borrow.Author.Tests.{eq-eqb, ne_eqb, leb-false, lt-leb}
+use Rattle.std.proofs.Math.ListN.{length, take}
+use Rattle.std.proofs.lemmas.List.{length-reverse}
+use Rattle.std.proofs.Math.Seq.{drop-cons, drop-set-lt}
+use borrow.Author.Tests.{eq-eqb, leb-false, lt-leb}
 use Rattle.rules.specs.Lists.{cons_if, keep, any, up_from, elem, append_new, different}
 use Rattle.rules.specs.Project.{Project, module_limit, join_first, lists_from, circle_lists, bad_circles}
 use Rattle.rules.specs.Circles as rules
 use Rattle.rules.specs.Circles.{following, listed_with, with_found, follow_member, follow_members, follow_module, gathered_of, gather}
 use Rattle.rules.specs.Modules.{circle_of}
-use Rattle.laws.specs.Lists.{◌∈◌, false≢true, not-true, or_right, Tested, holds, fails, tested, eqb-sym, any_false, elem-true, elem-false, true-elem, keep-∈, ∈-keep, ∈-append, Once, none, next, once-snoc, once-keep, once-length, length-parts, once-reverse, once-up_from, ∈-up_from, up_from-∈, length-up_from, append_new-old, append_new-new, ∈-append_new-right}
+use Rattle.laws.specs.Lists.{◌∈◌, false≢true, not-true, or_right, Tested, holds, fails, tested, eqb-sym, any_false, elem-true, elem-false, true-elem, keep-∈, ∈-keep, ∈-append, Once, next, once-snoc, once-keep, once-length, length-parts, once-reverse, once-up_from, ∈-up_from, up_from-∈, length-up_from, append_new-old, append_new-new, ∈-append_new-right}
 use Rattle.laws.specs.Counting.{neither, Below, below-cons, below-nil, below_length}
 use Rattle.laws.specs.Orders.{below-reverse}
 use Rattle.laws.specs.Accepted.{Accepted}

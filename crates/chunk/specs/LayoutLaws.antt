@@ -1,6 +1,6 @@
 -- Laying the import rows out: what holds in the midst of it, row by row, and at its end. Assumes nothing.
 use Rattle.std.specs.Prelude.{ℕ, ◌+◌, ◌≤◌, ◌<◌, ◌≡◌, refl, length, get_or, take, drop}
-use Rattle.std.proofs.Common.{arith, sym, subst, ◌∙◌, get_or-take, take-take, length-take-le}
+use Rattle.std.proofs.Common.{arith, sym, subst, ◌∙◌, take-take, length-take-le}
 use Rattle.std.proofs.Math.Path.{ap}
 use mathlib.Core.List.Memᴰ
 use mathlib.Core.List.{List, [], ◌∷◌, map, zip_with}
@@ -9,10 +9,9 @@ use Rattle.rules.specs.Lists.{keep, any, different}
 use Rattle.rules.specs.Project.{Project, Import, import_row, pair_rows, import_limit, module_limit}
 use Rattle.rules.specs.Modules.{imports_of}
 use Rattle.laws.specs.Lists.{∈-self}
-use Rattle.lists.specs.Arrays.{Zeros}
 use Rattle.lists.specs.declared.pairs.Pairs.{Pairs}
 use Rattle.lists.specs.BitLaws.{cell_below}
-use Rattle.lists.specs.Pairs.{Pair, pair, holds_pair, add_pairs, different_pairs, pairs_of, seconds_of, Seen, Room, Added, targets, Linkable, Linked}
+use Rattle.lists.specs.Pairs.{Pair, pair, holds_pair, add_pairs, different_pairs, pairs_of, seconds_of, Seen, Room, Added, targets, Linked}
 use Rattle.lists.specs.ChainLaws.{targets-more}
 use Rattle.lists.specs.PairLaws.{length_pairs, length-add_pair, seen_none, seen-added, store_below, different-seconds, targets-seconds}
 use Rattle.project.specs.RowLaws.{pairs-at, pairs_end}

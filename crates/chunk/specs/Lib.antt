@@ -1,7 +1,12 @@
-pub mod Imports
-pub mod Open
-pub mod OpenLaws
-pub mod LayoutLaws
 pub mod Marks
 pub mod Circles
 pub mod CircleLaws
+pub mod Open
+pub mod OpenLaws
+pub mod Imports
+pub mod LayoutLaws
+pub mod AppendLaws
+pub mod Walks
+pub mod WalkLaws
+pub mod RunLaws
+pub mod StartLaws

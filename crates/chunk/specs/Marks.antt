@@ -2,7 +2,7 @@
 use Rattle.std.specs.Prelude.{ℕ, ◌≡◌, refl, List, [], ◌∷◌}
 use Rattle.std.proofs.Math.Path.{ap₂}
 use Rattle.rules.specs.Lists.{elem}
-use Rattle.laws.specs.Lists.{◌∈◌, Once, none, next}
+use Rattle.laws.specs.Lists.{Once, none, next}
 use Rattle.lists.specs.Bits.{bit}
 
 -- A word holds exactly the members of a list.

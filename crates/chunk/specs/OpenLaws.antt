@@ -1,10 +1,11 @@
 -- Laws of open imports along a chain of places. Assumes nothing.
-use Rattle.std.specs.Prelude.{ℕ, ◌<◌, ◌≡◌, Bool, true, false, Option, Some, None, length, get_or}
+use Rattle.std.specs.Prelude.{ℕ, ◌<◌, ◌≡◌, true, false, Option, Some, None, get_or}
 use Rattle.std.specs.Iterator.{YieldsFirst}
-use Rattle.std.proofs.Common.{arith, sym, ap, subst, ◌∙◌}
+use Rattle.std.proofs.Common.{arith, ap}
 use mathlib.Core.List.Memᴰ
 use mathlib.Core.List.{List, [], ◌∷◌, map}
 use Rattle.rules.specs.Lists.{cons_if, keep}
+use Rattle.laws.specs.Lists.{keep-∈}
 use Rattle.laws.specs.Counting.{Below, below-nil}
 use Rattle.lists.specs.Chained.{places}
 use Rattle.chunk.specs.Open.{is_open, open_from}
@@ -32,3 +33,10 @@ module _ (to : List ℕ) (done circle : ℕ) (next next' : List ℕ) (entry entr
 pub open-none : (to next : List ℕ) (done circle entry : ℕ) → places next entry ≡ [] → open_from to next done circle entry ≡ []
 unfolding open_from keep
 open-none to next done circle entry e = ap (λ (l : List ℕ). keep (is_open done circle) (map (λ i. get_or to i 0) l)) e
+
+-- Where all numbers are below a bound, so are those of the open imports.
+pub open-below : (to next : List ℕ) (done circle entry bound : ℕ) → ((i : ℕ) → get_or to i 0 < bound) → Below bound (open_from to next done circle entry)
+unfolding open_from
+open-below to next done circle entry bound below x m =
+    let k = Memᴰ.of_map (λ i. get_or to i 0) (places next entry) (keep-∈ (is_open done circle) (map (λ i. get_or to i 0) (places next entry)) m).0 in
+    omega (arith, below k.0, k.2)

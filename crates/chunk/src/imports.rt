@@ -33,7 +33,11 @@ impl Imports {
         let mut at = 0;
         while at + 1 < section.len() {
             let row = import_at(section, at);
-            pairs.add(Layout::MODULE_ROOM, row.importer.0 as u16, row.imported.0 as u16);
+            pairs.add(
+                Layout::MODULE_ROOM,
+                row.importer.0 as u16,
+                row.imported.0 as u16,
+            );
             at += ImportRow::BYTES;
         }
         let mut chains = Chains::new();

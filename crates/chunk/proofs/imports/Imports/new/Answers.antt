@@ -1,4 +1,4 @@
-use Rattle.std.proofs.Common.{arith, ◌∙◌}
+use Rattle.std.proofs.Common.{arith}
 use Rattle.chunk.specs.LayoutLaws.{laying-start, laying-room, laying-next, laying-end}
 use Rattle.chunk.proofs.imports.Imports.new.Goals as goal
 

@@ -1,5 +1,4 @@
-use Rattle.std.proofs.Common.{arith}
-use Rattle.lists.specs.StackLaws.{placing-start, placing-rest, placing-end}
+use Rattle.lists.specs.StackLaws.{placing-rest, placing-end}
 use Rattle.chunk.proofs.ImportLaws.{member_below, place-room, place-next, members-end}
 use Rattle.chunk.proofs.imports.Imports.place_all.Goals as goal
 

@@ -1,6 +1,5 @@
 -- `Imports::place_open` meets its contract. The loop's invariant: with the open imports still to come placed below `at` the list is as it is to be.
 -- Assumes nothing.
-use Rattle.std.proofs.Common.{◌≤◌}
 use Rattle.lists.specs.StackLaws.{Placing}
 use Rattle.chunk.specs.Imports.{open_left, open_of}
 use Rattle.chunk.proofs.imports.Imports.place_open.Given as goal

@@ -1,4 +1,4 @@
-use Rattle.std.proofs.Common.{arith, rules, sym, ap, ◌∙◌, ◌<◌, length}
+use Rattle.std.proofs.Common.{rules, sym, ap, ◌∙◌, ◌<◌, length}
 use Rattle.rules.specs.Project.{import_limit}
 use Rattle.laws.specs.Lists.{∈-self}
 use Rattle.lists.specs.Chained.{places}
@@ -38,11 +38,12 @@ loop-place-preserved c =
     sym (open-passed at_head.to.now at_head.done at_head.circle _ _ _ _ c.in-Some.ensures.steps (sym c.is_open.ensures ∙ c.if-is_open.false)) ∙ c.loop-place.invariant
 
 pub returns-clause-steps : goal.returns-clause-steps
-returns-clause-steps c = 
+returns-clause-steps c =
     let at_head = c.loop-place.self in
-    let none = c.in_default.ensures.steps in
-    (sym c.loop-place.invariant ∙ open-none at_head.to.now at_head.chain.next.now at_head.done at_head.circle at_head.chain.entry none.0,
-     open-none at_head.to.now c.next.new.self.next.now at_head.done at_head.circle c.next.new.self.entry none.1)
+    let none = c.in_default.ensures.steps in (
+      sym c.loop-place.invariant ∙ open-none at_head.to.now at_head.chain.next.now at_head.done at_head.circle at_head.chain.entry none.0,
+      open-none at_head.to.now c.next.new.self.next.now at_head.done at_head.circle c.next.new.self.entry none.1,
+    )
 
 pub offset_bounds-self-place : goal.offset_bounds-self-place
 offset_bounds-self-place c = let h = here c in search rules

@@ -1,0 +1,36 @@
+-- Laws for the proofs of src/walk.rt. Assumes nothing.
+use Rattle.std.specs.Prelude.{ℕ, suc, ◌+◌, ◌-◌, ◌<◌, ◌≡◌, refl, true, false, List, [], ◌∷◌, ◌++◌, length, take, set}
+use Rattle.std.proofs.Common.{arith, add-one, take-suc-set}
+use Rattle.std.proofs.Math.Seq.{append_snoc}
+use Rattle.rules.specs.Lists.{is_empty, up_from}
+use Rattle.lists.specs.Stacks.{stack}
+use Rattle.lists.specs.StackLaws.{stack_push}
+
+-- A list is empty by its length.
+pub empty-none : (l : List ℕ) → length l ≡ 0 → is_empty l ≡ true
+unfolding is_empty
+empty-none [] h = refl
+empty-none (x ∷ l) h = absurd (omega arith)
+
+pub empty-some : (l : List ℕ) → 0 < length l → is_empty l ≡ false
+unfolding is_empty
+empty-some [] h = absurd (omega arith)
+empty-some (x ∷ l) h = refl
+
+-- The list is filled from below, the largest number first.
+pub fill_more : (a : List ℕ) (n i : ℕ) → i < n → i < length a → stack a i ≡ up_from (n - i) i → stack (set a i (n - 1 - i)) (i + 1) ≡ up_from (n - (i + 1)) (i + 1)
+unfolding up_from
+fill_more a n i h g e =
+    let low : n - 1 - i ≡ n - suc i = omega arith in
+    let up : suc (n - suc i) ≡ n - i = omega arith in
+    rw (stack_push a i (n - 1 - i) g, add-one, e, low, up)
+
+pub started : (a : List ℕ) (n entry : ℕ) → n < length a → stack a n ≡ up_from (n - n) n → stack (set a n entry) (n + 1) ≡ entry ∷ up_from 0 n
+started a n entry g e =
+    let none : n - n ≡ 0 = omega arith in
+    rw (stack_push a n entry g, e, none)
+
+-- A group: its count behind the groups before it, then its members.
+pub group-written : (a after members : List ℕ) (used : ℕ) → used < length a → take (used + 1 + length members) after ≡ take (used + 1) (set a used (length members)) ++ members
+    → take (used + 1 + length members) after ≡ take used a ++ (length members ∷ members)
+group-written a after members used h e = rw (e, add-one, take-suc-set a used (length members) h) (append_snoc (take used a) (length members) members)
