@@ -32,7 +32,7 @@ open-most imports done circle m =
     omega (
       arith,
       length-parts (is_open done circle) (imports_at imports m),
-      length-map (places imports.chains.next entry) (λ i. get_or imports.to i 0),
+      length-map (places imports.chains.next entry) (λ i. get_or imports.rows.to i 0),
       places-most imports.chains.next entry,
       imports.chains.sizes,
     )
@@ -97,7 +97,7 @@ module _ (p : Project) (imports : Imports) (l : Laid p.imports imports) (groups 
     (done-bits : (d : ℕ) → d < module_limit → bit done d ≡ is_done groups d) where
   modules-below : (m : ℕ) → Below module_limit (imports_at imports m)
   modules-below m x k =
-      let r = Memᴰ.of_map (λ i. get_or imports.to i 0) (places imports.chains.next (get_or imports.chains.heads m 0)) k in
+      let r = Memᴰ.of_map (λ i. get_or imports.rows.to i 0) (places imports.chains.next (get_or imports.chains.heads m 0)) k in
       omega (arith, imports.below r.0, r.2)
 
   open-tested : (circle : ℕ) (test : ℕ → Bool) → ((d : ℕ) → d < module_limit → is_open done circle d ≡ test d) → (m : ℕ) → m < module_limit

@@ -2,6 +2,7 @@
 ghost use Rattle.std.specs.Prelude.{◌+◌, ◌*◌, ◌≡◌, length};
 ghost use Rattle.rules.specs.Project.{module_limit};
 ghost use Rattle.rules.specs.Calls.{module_list_limit};
+ghost use Rattle.lists.specs.Arrays.{Zeros};
 
 use crate::walk::ModuleWalk;
 
@@ -14,7 +15,10 @@ pub struct Arrays {
 }
 
 impl Arrays {
-    pub fn new() -> Self {
+    pub fn new() -> Self
+        ensures list { Zeros module_list_limit result.list }
+        ensures groups { Zeros (module_limit * (module_limit + 1)) result.groups }
+    {
         Self {
             list: [0; ModuleWalk::LIST],
             groups: [0; ModuleWalk::GROUPS],

@@ -21,7 +21,12 @@ struct Following {
 fn holds(list: &[u8], m: ModuleId) -> bool
     ensures { result ≡ elem m.0 list.now }
 {
-    list.contains(&m.0)
+    for &member in list {
+        if member == m.0 {
+            return true;
+        }
+    }
+    false
 }
 
 // Gathers the members of every list of the section that holds m.

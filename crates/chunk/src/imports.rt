@@ -1,6 +1,6 @@
 // The imports of a project laid out for the module walk, and those of a circle's members that are open.
 ghost use Rattle.std.specs.Prelude.{ℕ, ◌<◌, ◌≡◌, length, get_or};
-ghost use Rattle.rules.specs.Project.{module_limit, import_limit};
+ghost use Rattle.rules.specs.Project.{module_limit};
 
 use crate::open::Open;
 use lists::chains::Chains;
@@ -11,41 +11,47 @@ use project::{Layout, ModuleId};
 // The words of a set of pairs of modules, a bit for each.
 const PAIR_WORDS: usize = Layout::MODULE_ROOM * Layout::MODULE_ROOM / 64;
 
-// The different import rows: their imported modules, and for each module the chain of its rows.
+// The different import rows as pairs of modules, and for each module the chain of its rows.
 #[derive(Drop)]
 pub struct Imports {
-    pub to: [u16; Layout::IMPORT_ROOM],
+    pub rows: Pairs<PAIR_WORDS, { Layout::IMPORT_ROOM }>,
     pub chains: Chains<{ Layout::MODULE_ROOM }, { Layout::IMPORT_ROOM }>,
-    pub ghost below: { (i : ℕ) → get_or to i 0 < module_limit },
+    pub ghost below: { (i : ℕ) → get_or rows.to i 0 < module_limit },
 }
 
 impl Imports {
     ghost use Rattle.rules.specs.Project.{import_row, pair_rows};
     ghost use Rattle.lists.specs.Stacks.{placed_below, Placeable, Placed};
-    ghost use Rattle.chunk.specs.Imports.{FitRows, Laid, Members, open_left, open_of, open_imports};
+    ghost use Rattle.chunk.specs.Imports.{FitRows, Fresh, Laid, Members, open_left, open_of, open_imports};
+
+    // No rows.
+    pub fn new() -> Self
+        ensures { Fresh result }
+    {
+        Self {
+            rows: Pairs::new(),
+            chains: Chains::new(),
+        }
+    }
 
     // Lays the rows of an imports section out.
-    pub fn new(section: &[u8]) -> Self
-        requires { FitRows (pair_rows import_row section.now) }
-        ensures { Laid (pair_rows import_row section.now) result }
+    pub fn lay_out(&mut self, section: &[u8])
+        requires fit_rows { FitRows (pair_rows import_row section.now) }
+        requires fresh { Fresh self.old }
+        ensures { Laid (pair_rows import_row section.now) self.new }
     {
-        let mut pairs: Pairs<PAIR_WORDS, { Layout::IMPORT_ROOM }> = Pairs::new();
         let mut at = 0;
         while at + 1 < section.len() {
             let row = import_at(section, at);
-            pairs.add(
+            self.rows.add(
                 Layout::MODULE_ROOM,
                 row.importer.0 as u16,
                 row.imported.0 as u16,
             );
             at += ImportRow::BYTES;
         }
-        let mut chains = Chains::new();
-        chains.link(pairs.firsts());
-        Self {
-            to: pairs.to,
-            chains,
-        }
+        let rows = &self.rows;
+        self.chains.link(&rows.from[..rows.count]);
     }
 
     // The open imports of m, in the order of their first rows.
@@ -54,7 +60,7 @@ impl Imports {
         ensures { open_left result ≡ open_of self.now done circle m.0 }
     {
         Open {
-            to: &self.to,
+            to: &self.rows.to,
             chain: self.chains.chain(m.0 as usize),
             done,
             circle,

@@ -16,7 +16,7 @@ use lists::bits;
 use project::{Layout, ModuleId};
 
 // The numbers of the walk's state: the end of the list, the modules done and marked, and the groups made with the bytes that they take.
-#[derive(Clone, Copy)]
+#[derive(Clone, Copy, Default)]
 pub struct ModuleWalk {
     pub end: usize,
     pub done: u64,
@@ -60,22 +60,17 @@ impl ModuleWalk {
         list[n] = entry.0;
         Self {
             end: n + 1,
-            done: 0,
-            marks: 0,
-            groups: 0,
-            used: 0,
+            ..Self::default()
         }
     }
 
     // The state with the front module taken off.
-    fn passed(self) -> Self
+    fn passed(mut self) -> Self
         requires { 0 < self.end }
         ensures { result ≡ record { end = self.end - 1; done = self.done; marks = self.marks; groups = self.groups; used = self.used } }
     {
-        Self {
-            end: self.end - 1,
-            ..self
-        }
+        self.end -= 1;
+        self
     }
 
     // The state with one more group, when its front module has been taken off.
@@ -302,11 +297,12 @@ pub fn toposort_real_module_ids(
     ensures { (p : Project) → Groupable p imports.now section.now modules entry.0
         → Ended (run_modules p module_list_limit allowance) (Holds arrays.new.groups) result }
 {
-    let imports = Imports::new(imports);
+    let mut laid = Imports::new();
+    laid.lay_out(imports);
     let start = ModuleWalk::new(&mut arrays.list, modules, entry);
     let walk = Modules {
         section,
-        imports: &imports,
+        imports: &laid,
     };
     walk.run(arrays, start, allowance)
 }

@@ -1,5 +1,5 @@
 // Different pairs of numbers in the order in which they were first added, and for each first number the chain of its pairs.
-ghost use Rattle.std.specs.Prelude.{ℕ, ◌≤◌, ◌<◌, ◌≡◌, length, get_or, take, drop};
+ghost use Rattle.std.specs.Prelude.{ℕ, ◌≤◌, ◌<◌, ◌≡◌, length, get_or, drop};
 ghost use Rattle.lists.specs.Pairs.{Room, Added, Linkable, Linked};
 
 use super::bits;
@@ -95,19 +95,5 @@ impl<const WORDS: usize, const PLACES: usize> Pairs<WORDS, PLACES> {
         self.from[self.count] = a;
         self.to[self.count] = b;
         self.count += 1;
-    }
-
-    // The first numbers of the pairs.
-    pub fn firsts(&self) -> &[u16]
-        ensures { result.now ≡ take self.now.count self.now.from }
-    {
-        &self.from[..self.count]
-    }
-
-    // Their second numbers.
-    pub fn seconds(&self) -> &[u16]
-        ensures { result.now ≡ take self.now.count self.now.to }
-    {
-        &self.to[..self.count]
     }
 }

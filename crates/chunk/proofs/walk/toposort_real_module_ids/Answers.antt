@@ -7,8 +7,8 @@ use Rattle.chunk.proofs.walk.toposort_real_module_ids.Goals as goal
 
 pub run-requires : goal.run-requires
 run-requires c =
-    (c.requires.0, module_start c.requires.0, walk-starts c.requires.1 _ refl c.new-imports.ensures c.new-start.ensures)
+    (c.requires.0, module_start c.requires.0, walk-starts c.requires.1 _ refl c.lay_out.ensures c.new-start.ensures)
 
 pub returns : goal.returns
 unfolding run_modules
-returns c p h = groups-held (c.run.ensures p (module_start p) (walk-starts h _ refl c.new-imports.ensures c.new-start.ensures))
+returns c p h = groups-held (c.run.ensures p (module_start p) (walk-starts h _ refl c.lay_out.ensures c.new-start.ensures))

@@ -19,4 +19,5 @@ returns c =
     let l = c.loop-i in
     let n = c.args.modules in
     let full : l.i ≡ n = omega arith in
-    walk-started n c.args.entry.0 (omega arith) (started l.list n c.args.entry.0 (omega arith) (rw full at l.invariant))
+    let none = c.default.ensures in
+    rw (none.1.0, none.1.1.0, none.1.1.1.0, none.1.1.1.1) (walk-started n c.args.entry.0 (omega arith) (started l.list n c.args.entry.0 (omega arith) (rw full at l.invariant)))

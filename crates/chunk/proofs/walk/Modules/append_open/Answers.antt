@@ -10,7 +10,7 @@ use Rattle.chunk.proofs.walk.Modules.append_open.Goals as goal
 pub loop-d-init : goal.loop-d-init
 loop-d-init c =
     let imports = c.args.self.now.imports.now in
-    let modules = open-below imports.to imports.chains.next c.args.done c.args.set (get_or imports.chains.heads c.args.m.0 0) module_limit imports.below in
+    let modules = open-below imports.rows.to imports.chains.next c.args.done c.args.set (get_or imports.chains.heads c.args.m.0 0) module_limit imports.below in
     rw (c.into_iter-d-iterator.ensures.into_iter_gives, c.open-d-items.ensures) (tt, tt, modules, appending-start c.args.circle.now _)
 
 pub append_one-requires : goal.append_one-requires
