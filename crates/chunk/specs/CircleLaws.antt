@@ -4,7 +4,7 @@ use native.Mathlib.Omega.{arith}
 use Rattle.std.proofs.Math.Numerals.{add-one}
 use Rattle.std.specs.Prelude.{◌≡◌, Bool, true, false, ◌||◌, leb, drop, set, get_or}
 use Rattle.std.proofs.Math.Path.{refl, sym, ap, subst⁻¹}
-use Rattle.std.proofs.Common.{subst, ◌∙◌, ⊎_elim, length-append, length-drop, drop_of_length-le, length-take-le, take_at, take-suc, take_all, take-suc-set, drop-drop}
+use Rattle.std.proofs.Common.{subst, ◌∙◌, ⊎_elim, length-set, length-append, length-drop, drop_of_length-le, length-take-le, take_at, take-suc, take_all, take-suc-set, drop-drop}
 use Rattle.std.proofs.Math.Bool.{not}
 use mathlib.Core.List.Memᴰ
 use mathlib.Core.List.{List, [], ◌∷◌, ◌++◌, reverse, reverse-cons, flatten}
@@ -20,7 +20,7 @@ use Rattle.rules.specs.Circles.{following, listed_with, with_found, follow_membe
 use Rattle.rules.specs.Modules.{circle_of}
 use Rattle.laws.specs.Lists.{◌∈◌, false≢true, not-true, or_right, Tested, holds, fails, tested, any_false, elem-true, elem-false, true-elem, keep-∈, ∈-keep, ∈-append, Once, next, once-snoc, once-keep, once-length, length-parts, once-reverse, once-up_from, ∈-up_from, up_from-∈, length-up_from, append_new-old, append_new-new, ∈-append_new-right}
 use Rattle.laws.specs.Counting.{neither, Below, below-cons, below-nil, below_length}
-use Rattle.laws.specs.Orders.{below-reverse}
+use Rattle.laws.specs.Orders.{below-reverse, get_or-∈}
 use Rattle.laws.specs.Accepted.{Accepted}
 use Rattle.laws.specs.Gathering.{circle-none, gather-deeper, circle-of}
 use Rattle.lists.specs.Bits.{bit}
@@ -153,6 +153,62 @@ module _ (g : Gathered) (m : ℕ) where
         record {
           front = rw (same, more) front ∙ sym (append_new-new (gathered_on g) m [] absent);
           grows = record { more = omega arith; rest = rw (same, more) (drop-set-lt (g.count + 1) g.array g.count m (omega arith)) };
+        }
+
+-- In the midst of appending: the array, the count and the set are those of what is gathered once `done` is appended.
+pub record Holding (before : Gathered) (array : List ℕ) (count have : ℕ) (done : List ℕ) : Type 0 where
+  pub now : Gathered
+  pub array-is : array ≡ now.array
+  pub count-is : count ≡ now.count
+  pub have-is : have ≡ now.have
+  pub appended : Appended before now done
+
+pub holding-start : (g : Gathered) → Holding g g.array g.count g.have []
+holding-start g = record { now = g; array-is = refl; count-is = refl; have-is = refl; appended = appended-none g }
+
+module _ {before : Gathered} {array : List ℕ} {count have : ℕ} (list : List ℕ) (i : ℕ) (within : i < length list) (below : Below module_limit list)
+    (h : Holding before array count have (take i list)) where
+  abbrev m : ℕ
+  m = get_or list i 0
+
+  is-module : m < module_limit
+  is-module = below m (get_or-∈ list i 0 within)
+
+  pub holding-old : bit have m ≡ true → Holding before array count have (take (i + 1) list)
+  holding-old e =
+      record {
+        now = h.now;
+        array-is = h.array-is;
+        count-is = h.count-is;
+        have-is = h.have-is;
+        appended = appended-more list i within h.appended (appended-old h.now m (rw h.have-is at e));
+      }
+
+  module _ (e : bit have m ≡ false) where
+    fresh : bit h.now.have m ≡ false
+    fresh = rw h.have-is at e
+
+    pub room-left : count < module_limit
+    room-left = rw h.count-is (count-below h.now m is-module fresh)
+
+    pub holding-new : (have' : ℕ) → ((j : ℕ) → bit have' j ≡ (eqb j m || bit have j)) → Holding before (set array count m) (count + 1) have' (take (i + 1) list)
+    holding-new have' bits =
+        let r : Gathered =
+        record {
+          array = set h.now.array h.now.count m;
+          count = h.now.count + 1;
+          have = have';
+          sizes = (simp length-set h.now.sizes.0, omega (arith, count-below h.now m is-module fresh));
+          once = once-more h.now m is-module fresh;
+          below = below-more h.now m is-module fresh;
+          marks = marks-more h.now m is-module fresh have' (rw h.have-is at bits);
+        } in
+        record {
+          now = r;
+          array-is = rw (h.array-is, h.count-is) refl;
+          count-is = rw h.count-is refl;
+          have-is = refl;
+          appended = appended-more list i within h.appended (appended-new h.now m is-module fresh r refl refl);
         }
 
 -- The modules gathered, reversed in place.
