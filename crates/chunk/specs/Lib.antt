@@ -2,7 +2,6 @@ pub mod Marks
 pub mod Circles
 pub mod CircleLaws
 pub mod Open
-pub mod OpenLaws
 pub mod Imports
 pub mod LayoutLaws
 pub mod AppendLaws

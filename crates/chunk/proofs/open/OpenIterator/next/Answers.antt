@@ -3,7 +3,7 @@ use Rattle.rules.specs.Project.{import_limit}
 use Rattle.laws.specs.Lists.{∈-self}
 use Rattle.lists.specs.Chained.{places}
 use Rattle.lists.specs.declared.chains.Chain.{Chain}
-use Rattle.chunk.specs.OpenLaws.{below-left, open-met, open-passed, open-none}
+use Rattle.chunk.proofs.OpenLaws.{below-left, open-met, open-passed, open-none}
 use Rattle.chunk.proofs.open.OpenIterator.next.Goals as goal
 use Rattle.chunk.proofs.open.OpenIterator.next.Goals.{In-Some}
 

@@ -3,7 +3,7 @@ use mathlib.Core.List.Memᴰ
 use Rattle.rules.specs.Project.{module_limit}
 use Rattle.laws.specs.Lists.{∈-self}
 use Rattle.chunk.specs.Imports.{open_left}
-use Rattle.chunk.specs.OpenLaws.{open-below}
+use Rattle.chunk.proofs.OpenLaws.{open-below}
 use Rattle.chunk.specs.AppendLaws.{appending-start, appending-rest, appending-more, appending-end}
 use Rattle.chunk.proofs.walk.Modules.append_open.Goals as goal
 
