@@ -92,8 +92,9 @@ impl<const WORDS: usize, const PLACES: usize> Pairs<WORDS, PLACES> {
             return;
         }
         bits::row_insert(&mut self.seen, k);
-        self.from[self.count] = a;
-        self.to[self.count] = b;
-        self.count += 1;
+        let place = self.count;
+        self.from[place] = a;
+        self.to[place] = b;
+        self.count = place + 1;
     }
 }
