@@ -1,3 +1,4 @@
+pub mod OpenLaws
 pub mod ImportLaws
 pub mod VisitLaws
 pub mod CameLaws

@@ -14,6 +14,7 @@ use Rattle.lists.specs.Bits.{bit}
 use Rattle.lists.specs.BitLaws.{bit-zero}
 use Rattle.lists.specs.Stacks.{stack, placed_below}
 use Rattle.lists.specs.StackLaws.{placed-stack}
+use Rattle.chunk.specs.declared.arrays.Arrays.{Arrays}
 use Rattle.chunk.specs.declared.walk.ModuleWalk.{ModuleWalk}
 use Rattle.chunk.specs.declared.walk.Outcome.TheVariants.{WentOn}
 use Rattle.chunk.specs.Walks.{marks_of, Grouped, Expanded, put, Shows}
@@ -69,9 +70,9 @@ shape : (s : ModuleState) {m : ℕ} {rest : List ℕ} → module_list s ≡ m �
 unfolding module_list marks_of groups_of
 shape (module_state list marks groups) e = ap (λ (l : List ℕ). module_state l marks groups) e
 
-pub front-shown : {list groups : List ℕ} {w : ModuleWalk} {s : ModuleState} → Shows list groups w s → 0 < w.end
-    → s ≡ module_state (get_or list (w.end - 1) 0 ∷ stack list (w.end - 1)) (marks_of s) (groups_of s)
-front-shown {list} {w = w} {s} h e = shape s (sym h.entries ∙ stack-front list w.end e)
+pub front-shown : {a : Arrays} {w : ModuleWalk} {s : ModuleState} → Shows a w s → 0 < w.end
+    → s ≡ module_state (get_or a.list (w.end - 1) 0 ∷ stack a.list (w.end - 1)) (marks_of s) (groups_of s)
+front-shown {a} {w} {s} h e = shape s (sym h.entries ∙ stack-front a.list w.end e)
 
 -- The bytes of one more group.
 flat_map-append : (f : List ℕ → List ℕ) (k l : List (List ℕ)) → flat_map f (k ++ l) ≡ flat_map f k ++ flat_map f l
@@ -90,13 +91,13 @@ or_swap false true = refl
 or_swap false false = refl
 
 -- The arrays and numbers after a visit.
-module _ {list groups : List ℕ} {w : ModuleWalk} {m : ℕ} {rest marks : List ℕ} {made : List (List ℕ)}
-    (h : Shows list groups w (module_state (m ∷ rest) marks made)) (e : 0 < w.end) where
-  below-front : stack list (w.end - 1) ≡ rest
+module _ {a : Arrays} {w : ModuleWalk} {m : ℕ} {rest marks : List ℕ} {made : List (List ℕ)}
+    (h : Shows a w (module_state (m ∷ rest) marks made)) (e : 0 < w.end) where
+  below-front : stack a.list (w.end - 1) ≡ rest
   unfolding module_list
-  below-front = let f : get_or list (w.end - 1) 0 ∷ stack list (w.end - 1) ≡ m ∷ rest = sym (stack-front list w.end e) ∙ h.entries in cc
+  below-front = let f : get_or a.list (w.end - 1) 0 ∷ stack a.list (w.end - 1) ≡ m ∷ rest = sym (stack-front a.list w.end e) ∙ h.entries in cc
 
-  pub shows-passed : Shows list groups (record { end = w.end - 1; done = w.done; marks = w.marks; groups = w.groups; used = w.used }) (module_state rest marks made)
+  pub shows-passed : Shows a (record { end = w.end - 1; done = w.done; marks = w.marks; groups = w.groups; used = w.used }) (module_state rest marks made)
   unfolding module_list marks_of groups_of groups_in_order
   shows-passed =
       record {
@@ -109,36 +110,36 @@ module _ {list groups : List ℕ} {w : ModuleWalk} {m : ℕ} {rest marks : List 
         bytes = h.bytes;
       }
 
-  pub shows-grouped : {g after : List ℕ} {set : ℕ} {r : ModuleWalk} → Grouped w g set groups after r → ((j : ℕ) → bit set j ≡ elem j g)
-      → Shows list after r (module_state rest [] (g ∷ made))
+  pub shows-grouped : {g : List ℕ} {set : ℕ} {r : ModuleWalk} (after : Arrays) → after.list ≡ a.list → Grouped w g set a.groups after.groups r
+      → ((j : ℕ) → bit set j ≡ elem j g) → Shows after r (module_state rest [] (g ∷ made))
   unfolding module_list marks_of groups_of groups_in_order is_done any elem
-  shows-grouped {g} {after} {set} {r} k same =
+  shows-grouped {g} {set} {r} after l k same =
       let last : r.end ≡ w.end - 1 = omega (arith, k.end) in
       record {
-        entries = ap (stack list) last ∙ below-front;
+        entries = ap₂ stack l last ∙ below-front;
         within = omega (arith, h.within);
         done = λ j. k.done j ∙ ap₂ (λ (x y : Bool). x || y) (h.done j) (same j) ∙ or_swap (any (elem j) made) (elem j g);
         marks = λ j. ap (λ (x : ℕ). bit x j) k.marks ∙ bit-zero j;
         count = omega (arith, k.groups, h.count);
         used = omega (arith, k.used, h.used, ap length (more_bytes g made), length-append (group_bytes (reverse made)) (length g ∷ g));
-        bytes = ap (λ (n : ℕ). take n after) k.used ∙ k.bytes ∙ ap (λ (l : List ℕ). l ++ (length g ∷ g)) h.bytes ∙ sym (more_bytes g made);
+        bytes = ap (λ (n : ℕ). take n after.groups) k.used ∙ k.bytes ∙ ap (λ (l : List ℕ). l ++ (length g ∷ g)) h.bytes ∙ sym (more_bytes g made);
       }
 
-  pub shows-expanded : (front new_marks : List ℕ) {after : List ℕ} {word : ℕ} → length list ≡ module_list_limit → w.end + length front ≤ module_list_limit
-      → after ≡ placed_below (w.end + length front) front list → ((j : ℕ) → bit word j ≡ elem j new_marks)
-      → Shows after groups (record { end = w.end + length front; done = w.done; marks = word; groups = w.groups; used = w.used })
+  pub shows-expanded : (front new_marks : List ℕ) {word : ℕ} (after : Arrays) → after.groups ≡ a.groups → w.end + length front ≤ module_list_limit
+      → after.list ≡ placed_below (w.end + length front) front a.list → ((j : ℕ) → bit word j ≡ elem j new_marks)
+      → Shows after (record { end = w.end + length front; done = w.done; marks = word; groups = w.groups; used = w.used })
       (module_state (front ++ (m ∷ rest)) new_marks made)
   unfolding module_list marks_of groups_of groups_in_order
-  shows-expanded front new_marks size fits written same =
+  shows-expanded front new_marks after g fits written same =
       let back : w.end + length front - length front ≡ w.end = omega arith in
       record {
         entries =
-            ap (λ (l : List ℕ). stack l (w.end + length front)) written ∙ placed-stack (w.end + length front) front list (omega arith) (omega arith)
-            ∙ ap (λ (n : ℕ). front ++ stack list n) back ∙ ap (λ (l : List ℕ). front ++ l) h.entries;
+            ap (λ (l : List ℕ). stack l (w.end + length front)) written ∙ placed-stack (w.end + length front) front a.list (omega arith) (omega (arith, a.sizes))
+            ∙ ap (λ (n : ℕ). front ++ stack a.list n) back ∙ ap (λ (l : List ℕ). front ++ l) h.entries;
         within = fits;
         done = h.done;
         marks = same;
         count = h.count;
         used = h.used;
-        bytes = h.bytes;
+        bytes = ap (take w.used) g ∙ h.bytes;
       }

@@ -1,162 +1,131 @@
 -- Laying the import rows out: what holds in the midst of it, row by row, and at its end. Assumes nothing.
-use Rattle.std.specs.Prelude.{ℕ, suc, ◌+◌, ◌-◌, ◌≤◌, ◌<◌, ◌≡◌, refl, ltb, length, get_or}
-use Rattle.std.proofs.Common.{arith, sym, subst, ◌∙◌, get_or-drop, ltb-true, ltb-false}
+use Rattle.std.specs.Prelude.{ℕ, ◌+◌, ◌≤◌, ◌<◌, ◌≡◌, refl, length, get_or, take}
+use Rattle.std.proofs.Common.{arith, sym, subst, ◌∙◌, take-take, length-take-le}
 use Rattle.std.proofs.Math.Path.{ap}
 use mathlib.Core.List.Memᴰ
 use mathlib.Core.List.{List, [], ◌∷◌, map, zip_with}
 use Rattle.std.proofs.Math.Dec.{eqb}
 use Rattle.rules.specs.Lists.{keep, any, different}
-use Rattle.rules.specs.Project.{Import, import_row, import_limit, module_limit}
+use Rattle.rules.specs.Project.{Project, Import, import_row, import_limit, module_limit}
 use Rattle.rules.specs.Modules.{imports_of}
-use Rattle.laws.specs.Lists.{∈-self, Tested, holds, fails, tested}
-use Rattle.lists.specs.Arrays.{Zeros}
+use Rattle.laws.specs.Lists.{∈-self}
+use Rattle.lists.specs.declared.pairs.Pairs.{Pairs}
 use Rattle.lists.specs.BitLaws.{cell_below}
-use Rattle.lists.specs.Pairs.{Pair, pair, holds_pair, add_pairs, different_pairs, pairs_of, seconds_of, Seen, Room, Added, Onward, Linkable, Linked}
-use Rattle.lists.specs.PairLaws.{length_pairs, length-add_pair, seen_none, seen-added, store_below, different-seconds, targets-seconds}
+use Rattle.lists.specs.Pairs.{Pair, pair, holds_pair, add_pairs, different_pairs, pairs_of, seconds_of, Seen, Room, Added, targets, Linked}
 use Rattle.lists.specs.ChainLaws.{targets-more}
-use Rattle.chunk.specs.Imports.{FitRows, Laid}
+use Rattle.lists.specs.PairLaws.{length_pairs, length-add_pair, seen_none, seen-added, store_below, different-seconds, targets-seconds}
+use Rattle.lists.specs.declared.chains.Chains.{Chains}
+use Rattle.chunk.specs.Imports.{FitRows, places_to}
 
 -- an import row as a pair
 abbrev pub as_pair : Import → Pair
 as_pair i = pair i.importer i.imported
 
--- The rows before `rest` are laid out: their different pairs are the first n.
-pub record Laying (rows rest : List Import) (seen from to : List ℕ) (n : ℕ) : Type 0 where
-  pub seen_size : length seen ≡ module_limit
-  pub from-size : length from ≡ import_limit
-  pub to-size : length to ≡ import_limit
-  pub count : n + length rest ≤ import_limit
-  pub rest-fits : FitRows rest
-  pub from-below : (j : ℕ) → get_or from j 0 < module_limit
-  pub to_below : (j : ℕ) → get_or to j 0 < module_limit
-  pub seen-pairs : Seen module_limit module_limit seen (pairs_of from to n)
-  pub pairs : add_pairs (pairs_of from to n) (map as_pair rest) ≡ different_pairs (map as_pair rows)
+-- the pairs of modules of the rows, a word of bits for each importer
+abbrev pub RowPairs : Type 0
+RowPairs = Pairs module_limit import_limit
 
-pub laying-start : {rows : List Import} {seen from to : List ℕ} → FitRows rows → Zeros module_limit seen → Zeros import_limit from → Zeros import_limit to
-    → Laying rows rows seen from to 0
+abbrev pub all_pairs : RowPairs → List Pair
+all_pairs s = pairs_of s.from s.to s.count
+
+-- The rows before `rest` are laid out: their different pairs are those of `s`.
+pub record Laying (rows rest : List Import) (s : RowPairs) : Type 0 where
+  pub count : s.count + length rest ≤ import_limit
+  pub rest-fits : FitRows rest
+  pub from-below : (j : ℕ) → get_or s.from j 0 < module_limit
+  pub to_below : (j : ℕ) → get_or s.to j 0 < module_limit
+  pub seen-pairs : Seen module_limit module_limit s.seen (all_pairs s)
+  pub pairs : add_pairs (all_pairs s) (map as_pair rest) ≡ different_pairs (map as_pair rows)
+
+pub laying-start : {rows : List Import} (s : RowPairs) → FitRows rows → s.count ≡ 0 → ((k : ℕ) → get_or s.seen k 0 ≡ 0) → ((k : ℕ) → get_or s.from k 0 ≡ 0)
+    → ((k : ℕ) → get_or s.to k 0 ≡ 0) → Laying rows rows s
 unfolding pairs_of zip_with different_pairs holds_pair any
-laying-start {rows} {seen} f s r t =
+laying-start {rows} s f none seen from to =
+    let empty : all_pairs s ≡ [] = rw none refl in
     record {
-      seen_size = s.size;
-      from-size = r.size;
-      to-size = t.size;
       count = omega (arith, f.most);
       rest-fits = f;
-      from-below = λ j. omega (arith, r.zeros j);
-      to_below = λ j. omega (arith, t.zeros j);
-      seen-pairs = seen_none s;
-      pairs = refl;
+      from-below = λ j. omega (arith, from j);
+      to_below = λ j. omega (arith, to j);
+      seen-pairs = rw empty (seen_none (record { size = refl; zeros = seen }));
+      pairs = rw empty refl;
     }
 
-module _ {rows rest : List Import} {a b : ℕ} {seen from to : List ℕ} {n : ℕ} (l : Laying rows (import_row a b ∷ rest) seen from to n) where
+module _ {rows rest : List Import} {a b : ℕ} (s : RowPairs) (l : Laying rows (import_row a b ∷ rest) s) where
   importer-below : a < module_limit
   importer-below = l.rest-fits.importers-below (import_row a b) ∈-self
 
   imported-below : b < module_limit
   imported-below = l.rest-fits.imported-below (import_row a b) ∈-self
 
-  row_room : Room module_limit a b seen from to n
+  row_room : Room module_limit a b s.seen s.from s.to s.count
   row_room =
       record {
-        seen-room = omega (arith, cell_below module_limit module_limit a b importer-below imported-below);
-        seen_most = omega arith;
+        seen-room = omega (arith, s.sizes, cell_below module_limit module_limit a b importer-below imported-below);
+        seen_most = omega (arith, s.sizes);
         seen-pair = l.seen-pairs a b importer-below imported-below;
-        from-room = omega arith;
-        to_room = omega arith;
+        from-room = omega (arith, s.sizes, l.count);
+        to_room = omega (arith, s.sizes, l.count);
       }
 
-  row-added : {seen' from' to' : List ℕ} {n' : ℕ} → Added module_limit a b seen from to n seen' from' to' n'
-      → length seen' ≡ length seen → length from' ≡ length from → length to' ≡ length to → Laying rows rest seen' from' to' n'
+  row-added : (t : RowPairs) → Added module_limit a b s.seen s.from s.to s.count t.seen t.from t.to t.count → Laying rows rest t
   unfolding add_pairs
-  row-added {seen'} {from'} {to'} {n'} d e f g =
+  row-added t d =
       record {
-        seen_size = e ∙ l.seen_size;
-        from-size = f ∙ l.from-size;
-        to-size = g ∙ l.to-size;
         count =
             omega
-            (arith, d.count, length-add_pair (pairs_of from to n) (pair a b), length_pairs from to n (omega arith) (omega arith));
+            (arith, l.count, d.count, length-add_pair (all_pairs s) (pair a b), length_pairs s.from s.to s.count (omega (arith, s.sizes, s.within)) (omega (arith, s.sizes, s.within)));
         rest-fits =
             record {
               importers-below = λ i m. l.rest-fits.importers-below i (Memᴰ.tail m);
               imported-below = λ i m. l.rest-fits.imported-below i (Memᴰ.tail m);
-              most = omega arith;
+              most = omega (arith, l.rest-fits.most);
             };
         from-below =
             λ j.
             rw d.from-whole
-            (store_below module_limit (holds_pair (pair a b) (pairs_of from to n)) from n a (omega arith) importer-below l.from-below j);
+            (store_below module_limit (holds_pair (pair a b) (all_pairs s)) s.from s.count a (omega (arith, s.sizes, l.count)) importer-below l.from-below j);
         to_below =
             λ j.
             rw d.to_whole
-            (store_below module_limit (holds_pair (pair a b) (pairs_of from to n)) to n b (omega arith) imported-below l.to_below j);
+            (store_below module_limit (holds_pair (pair a b) (all_pairs s)) s.to s.count b (omega (arith, s.sizes, l.count)) imported-below l.to_below j);
         seen-pairs = seen-added imported-below d l.seen-pairs;
         pairs = rw d.pairs l.pairs;
       }
 
 -- the same for the first of the rows that are left
-module _ {rows left rest : List Import} {a b : ℕ} {seen from to : List ℕ} {n : ℕ} (first : left ≡ import_row a b ∷ rest) (l : Laying rows left seen from to n) where
-  split : Laying rows (import_row a b ∷ rest) seen from to n
-  split = subst (λ (k : List Import). Laying rows k seen from to n) first l
+module _ {rows left rest : List Import} {a b : ℕ} (s : RowPairs) (first : left ≡ import_row a b ∷ rest) (l : Laying rows left s) where
+  split : Laying rows (import_row a b ∷ rest) s
+  split = subst (λ (k : List Import). Laying rows k s) first l
 
-  pub laying-room : Room module_limit a b seen from to n
-  laying-room = row_room split
+  pub laying-room : Room module_limit a b s.seen s.from s.to s.count
+  laying-room = row_room s split
 
-  pub laying-next : {seen' from' to' : List ℕ} {n' : ℕ} → Added module_limit a b seen from to n seen' from' to' n'
-      → length seen' ≡ length seen → length from' ≡ length from → length to' ≡ length to → Laying rows rest seen' from' to' n'
-  laying-next d e f g = row-added split d e f g
+  pub laying-next : (t : RowPairs) → Added module_limit a b s.seen s.from s.to s.count t.seen t.from t.to t.count → Laying rows rest t
+  laying-next t d = row-added s split t d
 
-pub laying-linkable : {rows rest : List Import} {seen from to : List ℕ} {n : ℕ} → Laying rows rest seen from to n → {heads next : List ℕ}
-    → Zeros module_limit heads → Zeros import_limit next → Linkable from n heads next
-laying-linkable {from = from} l z w =
-    record {
-      from-size = omega arith;
-      next-size = omega arith;
-      most = omega arith;
-      below = λ i h. omega (arith, l.from-below i);
-      empty = λ i h. z.zeros (get_or from i 0);
-    }
+-- All rows are laid out.
+module _ {rows left : List Import} (s : RowPairs) (all : left ≡ []) (laying : Laying rows left s) where
+  l : Laying rows [] s
+  l = subst (λ (rest : List Import). Laying rows rest s) all laying
 
--- All rows are laid out and their pairs chained.
-module _ {rows left : List Import} {seen from to : List ℕ} {n : ℕ} (all : left ≡ []) (laying : Laying rows left seen from to n) {heads₀ next₀ heads next : List ℕ}
-    (heads-size : length heads ≡ module_limit) (next-size : length next ≡ import_limit) (z : Zeros module_limit heads₀) (w : Zeros import_limit next₀)
-    (k : Linked 0 from n heads₀ next₀ heads next) where
-  l : Laying rows [] seen from to n
-  l = subst (λ (rest : List Import). Laying rows rest seen from to n) all laying
+  keys-length : length (take s.count s.from) ≡ s.count
+  keys-length = length-take-le s.count s.from (omega (arith, s.sizes, s.within))
 
-  next-rest : (i : ℕ) → n ≤ i → get_or next i 0 ≡ 0
-  next-rest i h =
-      ap (λ (j : ℕ). get_or next j 0) (omega arith)
-      ∙ sym (get_or-drop n next (i - n) 0)
-      ∙ ap (λ (m : List ℕ). get_or m (i - n) 0) k.next-rest
-      ∙ get_or-drop n next₀ (i - n) 0
-      ∙ w.zeros (n + (i - n))
-
-  next-onward : (i : ℕ) → i < import_limit → Onward (suc i) import_limit (get_or next i 0)
-  next-onward i h = go (tested (ltb i n))
-    where
-      go : Tested (ltb i n) → Onward (suc i) import_limit (get_or next i 0)
-      go (holds e) = let o = k.next-onward i (omega arith) (ltb-true i n e) in (o.0, omega (arith, l.count))
-      go (fails e) = let none = next-rest i (ltb-false i n e) in (λ h. absurd (omega arith), omega arith)
-
-  pub laying-end : Laid rows to heads next
-  unfolding add_pairs imports_of
-  laying-end =
-      record {
-        chains =
-            record {
-              to-size = l.to-size;
-              heads-size = heads-size;
-              next-size = next-size;
-              to_below = l.to_below;
-              heads-most = λ m. omega (arith, (k.heads-onward m (z.zeros m)).1);
-              next-onward = next-onward;
-            };
-        imports =
-            λ p e m h.
-            targets-more n next (λ j. k.next-onward j (omega arith)) to import_limit (get_or heads m 0) (omega arith) (k.heads-onward m (z.zeros m)).1
-            ∙ targets-seconds from to heads₀ next₀ heads next n (omega arith) (omega arith) k m (omega arith) (z.zeros m)
-            ∙ ap (seconds_of m) l.pairs
-            ∙ different-seconds (λ (i : Import). i.importer) (λ (i : Import). i.imported) m rows
-            ∙ ap (λ (r : List Import). different (map (λ (i : Import). i.imported) (keep (λ (i : Import). eqb i.importer m) r))) (sym e);
-      }
+  -- their pairs are chained
+  pub laying-end : (heads₀ next₀ : List ℕ) (chains : Chains module_limit import_limit) → ((k : ℕ) → get_or heads₀ k 0 ≡ 0)
+      → Linked 0 (take s.count s.from) (length (take s.count s.from)) heads₀ next₀ chains.heads chains.next
+      → (p : Project) → p.imports ≡ rows → (m : ℕ) → m < module_limit → places_to s.to chains m ≡ imports_of p m
+  unfolding add_pairs imports_of targets pairs_of
+  laying-end heads₀ next₀ chains none k p e m below =
+      let n = s.count in
+      let heads = chains.heads in
+      let next = chains.next in
+      let first = get_or heads m 0 in
+      let linked : Linked 0 (take n s.from) n heads₀ next₀ heads next = subst (λ (c : ℕ). Linked 0 (take n s.from) c heads₀ next₀ heads next) keys-length k in
+      let again : pairs_of (take n s.from) s.to n ≡ all_pairs s = ap (λ (x : List ℕ). zip_with pair x (take n s.to)) (take-take n n s.from (omega arith)) in
+      targets-more n next (λ j. linked.next-onward j (omega arith)) s.to (length next) first (omega (arith, chains.sizes, s.within)) (linked.heads-onward m (none m)).1
+      ∙ targets-seconds (take n s.from) s.to heads₀ next₀ heads next n (omega (arith, keys-length)) (omega (arith, s.sizes, s.within)) linked m (omega (arith, chains.sizes)) (none m)
+      ∙ ap (seconds_of m) (again ∙ l.pairs)
+      ∙ different-seconds (λ (i : Import). i.importer) (λ (i : Import). i.imported) m rows
+      ∙ ap (λ (r : List Import). different (map (λ (i : Import). i.imported) (keep (λ (i : Import). eqb i.importer m) r))) (sym e)

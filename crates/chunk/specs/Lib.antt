@@ -1,5 +1,7 @@
+pub mod Marks
 pub mod Circles
 pub mod CircleLaws
+pub mod Open
 pub mod Imports
 pub mod LayoutLaws
 pub mod AppendLaws

@@ -1,5 +1,5 @@
 -- Laws for the proof of `toposort_real_module_ids` of src/walk.rt: the walk of a project begins, and ends as the definition's. Assumes nothing.
-use Rattle.std.specs.Prelude.{ℕ, ◌+◌, ◌<◌, ◌≡◌, refl, length}
+use Rattle.std.specs.Prelude.{ℕ, ◌+◌, ◌<◌, ◌≡◌, refl}
 use Rattle.std.proofs.Common.{arith, subst}
 use mathlib.Core.List.{List, ◌∷◌, flat_map}
 use Rattle.rules.specs.Lists.{any, elem, up_from}
@@ -10,6 +10,8 @@ use Rattle.rules.specs.Calls.{group_bytes, module_list_limit}
 use Rattle.laws.specs.ModuleWalk.{walked_start}
 use Rattle.lists.specs.BitLaws.{bit-zero}
 use Rattle.lists.specs.Stacks.{stack}
+use Rattle.chunk.specs.declared.arrays.Arrays.{Arrays}
+use Rattle.chunk.specs.declared.imports.Imports.{Imports}
 use Rattle.chunk.specs.declared.walk.ModuleWalk.{ModuleWalk}
 use Rattle.chunk.specs.declared.walk.Ending.{Ending}
 use Rattle.chunk.specs.Imports.{FitRows, Laid}
@@ -19,9 +21,9 @@ use Rattle.chunk.specs.Walks.{marks_of, Started, Shows, Walking, Ended, has-fini
 pub walk-started : {list : List ℕ} (modules entry : ℕ) → modules < module_list_limit → stack list (modules + 1) ≡ entry ∷ up_from 0 modules
     → Started modules entry list (record { end = modules + 1; done = 0; marks = 0; groups = 0; used = 0 })
 unfolding module_start module_list groups_of groups_in_order marks_of is_done any elem group_bytes flat_map
-walk-started modules entry most filled p e f groups =
+walk-started modules entry most filled p e f a same =
     record {
-      entries = rw (e, f) filled;
+      entries = rw (same, e, f) filled;
       within = omega arith;
       done = bit-zero;
       marks = bit-zero;
@@ -30,7 +32,7 @@ walk-started modules entry most filled p e f groups =
       bytes = refl;
     }
 
-module _ {p : Project} {rows section groups : List ℕ} {count first : ℕ} (h : Groupable p rows section count first groups) where
+module _ {p : Project} {rows section : List ℕ} {count first : ℕ} (h : Groupable p rows section count first) where
   pub rows_fit : FitRows (pair_rows import_row rows)
   rows_fit =
       let most = h.accepted.modules-most in
@@ -42,24 +44,22 @@ module _ {p : Project} {rows section groups : List ℕ} {count first : ℕ} (h :
       } in
       subst FitRows h.imports fits
 
-  pub walk-starts : {to heads next list : List ℕ} {w : ModuleWalk} → Laid (pair_rows import_row rows) to heads next → length list ≡ module_list_limit
-      → Started count first list w → Walking p section to heads next list groups w (module_start p)
-  walk-starts l size s =
+  pub walk-starts : {imports : Imports} {w : ModuleWalk} (a : Arrays) {list : List ℕ} → a.list ≡ list → Laid (pair_rows import_row rows) imports → Started count first list w
+      → Walking p section imports a w (module_start p)
+  walk-starts a same l s =
       record {
         accepted = h.accepted;
         circles = h.circles;
         sound = h.sound;
         laid = rw h.imports l;
-        list-size = size;
-        groups-size = h.groups-size;
-        shows = s p h.modules h.entry groups;
+        shows = s p h.modules h.entry a same;
         walked = walked_start h.accepted;
       }
 
-shown-holds : {list groups : List ℕ} {w : ModuleWalk} {s : ModuleState} → Shows list groups w s → Holds groups w s
+shown-holds : {a : Arrays} {w : ModuleWalk} {s : ModuleState} → Shows a w s → Holds a.groups w s
 shown-holds h = record { count = h.count; used = h.used; bytes = h.bytes }
 
-pub groups-held : {stop : Stop ModuleState} {list groups : List ℕ} {r : Ending} → Ended stop (Shows list groups) r → Ended stop (Holds groups) r
+pub groups-held : {stop : Stop ModuleState} {a : Arrays} {r : Ending} → Ended stop (Shows a) r → Ended stop (Holds a.groups) r
 groups-held (has-finished s e h) = has-finished s e (shown-holds h)
 groups-held (was-spent e) = was-spent e
 groups-held (list-was-full e) = list-was-full e

@@ -1,7 +1,7 @@
 -- Laws for the proofs of src/walk.rt. Assumes nothing.
-use Rattle.std.specs.Prelude.{ℕ, suc, ◌+◌, ◌-◌, ◌<◌, ◌≡◌, refl, true, false, List, [], ◌∷◌, ◌++◌, length, get_or, take, set}
-use Rattle.std.proofs.Common.{arith, add-one, append_assoc, take-suc, take-suc-set}
-use Rattle.std.proofs.Math.Seq.{take-length, append_snoc}
+use Rattle.std.specs.Prelude.{ℕ, suc, ◌+◌, ◌-◌, ◌<◌, ◌≡◌, refl, true, false, List, [], ◌∷◌, ◌++◌, length, take, set}
+use Rattle.std.proofs.Common.{arith, add-one, take-suc-set}
+use Rattle.std.proofs.Math.Seq.{append_snoc}
 use Rattle.rules.specs.Lists.{is_empty, up_from}
 use Rattle.lists.specs.Stacks.{stack}
 use Rattle.lists.specs.StackLaws.{stack_push}
@@ -30,16 +30,7 @@ started a n entry g e =
     let none : n - n ≡ 0 = omega arith in
     rw (stack_push a n entry g, e, none)
 
--- Entries are copied one after the other behind a front.
-pub copy_more : (front source a : List ℕ) (at i : ℕ) → i < length source → at + i < length a → take (at + i) a ≡ front ++ take i source
-    → take (at + (i + 1)) (set a (at + i) (get_or source i 0)) ≡ front ++ take (i + 1) source
-copy_more front source a at i h g e =
-    let next : at + (i + 1) ≡ suc (at + i) = omega arith in
-    rw (next, add-one, take-suc-set a (at + i) (get_or source i 0) g, e, take-suc source i 0 h) (append_assoc front (take i source) (get_or source i 0 ∷ []))
-
 -- A group: its count behind the groups before it, then its members.
-pub group-written : (a after members : List ℕ) (used : ℕ) → used < length a
-    → take (used + 1 + length members) after ≡ take (used + 1) (set a used (length members)) ++ take (length members) members
+pub group-written : (a after members : List ℕ) (used : ℕ) → used < length a → take (used + 1 + length members) after ≡ take (used + 1) (set a used (length members)) ++ members
     → take (used + 1 + length members) after ≡ take used a ++ (length members ∷ members)
-group-written a after members used h e =
-    rw (e, add-one, take-suc-set a used (length members) h, take-length members) (append_snoc (take used a) (length members) members)
+group-written a after members used h e = rw (e, add-one, take-suc-set a used (length members) h) (append_snoc (take used a) (length members) members)

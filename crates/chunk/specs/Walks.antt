@@ -9,9 +9,11 @@ use Rattle.lists.specs.Bits.{bit}
 use Rattle.lists.specs.Stacks.{stack, placed_below}
 use Rattle.laws.specs.Accepted.{Accepted}
 use Rattle.laws.specs.ModuleWalk.{WalkedIn}
-use Rattle.chunk.specs.Circles.{gathered_on, Gathers}
+use Rattle.chunk.specs.Circles.{gathered_on}
 use Rattle.chunk.specs.Imports.{Laid}
-use Rattle.chunk.specs.declared.circles.Gathered.{Gathered}
+use Rattle.chunk.specs.declared.arrays.Arrays.{Arrays}
+use Rattle.chunk.specs.declared.gathered.Gathered.{Gathered}
+use Rattle.chunk.specs.declared.imports.Imports.{Imports}
 use Rattle.chunk.specs.declared.walk.ModuleWalk.{ModuleWalk}
 use Rattle.chunk.specs.declared.walk.Outcome.{Outcome}
 use Rattle.chunk.specs.declared.walk.Outcome.TheVariants.{WentOn, Placed, ListFull}
@@ -50,36 +52,34 @@ pub data Expanded (imports before after : List ℕ) (w : ModuleWalk) (marks : �
 
 -- The arrays and numbers of the code show a state of the walk: the list with its front at the end index, the modules done and marked as sets of
 -- bits, and the groups as the bytes that a groups call writes.
-pub record Shows (list groups : List ℕ) (w : ModuleWalk) (s : ModuleState) : Type 0 where
-  pub entries : stack list w.end ≡ module_list s
+pub record Shows (a : Arrays) (w : ModuleWalk) (s : ModuleState) : Type 0 where
+  pub entries : stack a.list w.end ≡ module_list s
   pub within : w.end ≤ module_list_limit
   pub done : (m : ℕ) → bit w.done m ≡ is_done (groups_of s) m
   pub marks : (m : ℕ) → bit w.marks m ≡ elem m (marks_of s)
   pub count : w.groups ≡ length (groups_of s)
   pub used : w.used ≡ length (group_bytes (groups_in_order s))
-  pub bytes : take w.used groups ≡ group_bytes (groups_in_order s)
+  pub bytes : take w.used a.groups ≡ group_bytes (groups_in_order s)
 
 -- The walk before the first visit: whatever stands where the groups will, it shows the paper's start of every project with these modules and this entry.
 abbrev pub Started : ℕ → ℕ → List ℕ → ModuleWalk → Type 0
-Started modules entry list w = (p : Project) → p.modules ≡ modules → p.entry ≡ entry → (groups : List ℕ) → Shows list groups w (module_start p)
+Started modules entry list w = (p : Project) → p.modules ≡ modules → p.entry ≡ entry → (a : Arrays) → a.list ≡ list → Shows a w (module_start p)
 
--- What a visit relies on: the project's imports and circles, arrays of the right size, and a state that the walk of the project can be in.
-pub record Walking (p : Project) (section to heads next list groups : List ℕ) (w : ModuleWalk) (s : ModuleState) : Type 0 where
+-- What a visit relies on: the project's imports and circles, and a state that the walk of the project can be in.
+pub record Walking (p : Project) (section : List ℕ) (imports : Imports) (a : Arrays) (w : ModuleWalk) (s : ModuleState) : Type 0 where
   pub accepted : Accepted p
   pub circles : p.circles ≡ circle_lists section
   pub sound : bad_circles module_limit 0 section ≡ false
-  pub laid : Laid p.imports to heads next
-  pub list-size : length list ≡ module_list_limit
-  pub groups-size : length groups ≡ module_limit * (module_limit + 1)
-  pub shows : Shows list groups w s
+  pub laid : Laid p.imports imports
+  pub shows : Shows a w s
   pub walked : WalkedIn p s
 
 -- What a visit comes to, by the paper's cases: the state after it, and whether it made a group. Of the arrays after a full list nothing is said.
-pub data Came (p : Project) (s : ModuleState) (list groups : List ℕ) : Outcome → Type 0 where
-  went_on : {w : ModuleWalk} → groups_of (visit_module p s) ≡ groups_of s → Shows list groups w (visit_module p s) → Came p s list groups (WentOn w)
-  made-group : {w : ModuleWalk} {g : List ℕ} → groups_of (visit_module p s) ≡ g ∷ groups_of s → Shows list groups w (visit_module p s)
-      → Came p s list groups (Placed w)
-  was-full : module_list_limit < length (module_list (visit_module p s)) → Came p s list groups ListFull
+pub data Came (p : Project) (s : ModuleState) (a : Arrays) : Outcome → Type 0 where
+  went_on : {w : ModuleWalk} → groups_of (visit_module p s) ≡ groups_of s → Shows a w (visit_module p s) → Came p s a (WentOn w)
+  made-group : {w : ModuleWalk} {g : List ℕ} → groups_of (visit_module p s) ≡ g ∷ groups_of s → Shows a w (visit_module p s)
+      → Came p s a (Placed w)
+  was-full : module_list_limit < length (module_list (visit_module p s)) → Came p s a ListFull
 
 -- What a visit finds behind the front module m: the rest of the list, the marks and the groups made.
 pub record Behind : Type 0 where
@@ -92,28 +92,27 @@ abbrev pub state_at : ℕ → Behind → ModuleState
 state_at m b = module_state (m ∷ b.rest) b.marks b.made
 
 -- Step 2 and on: m is not done.
-pub record Undone (b : Behind) (section to heads next list groups : List ℕ) (w : ModuleWalk) (m : ℕ) : Type 0 where
-  pub walking : Walking b.project section to heads next list groups w (state_at m b)
+pub record Undone (b : Behind) (section : List ℕ) (imports : Imports) (a : Arrays) (w : ModuleWalk) (m : ℕ) : Type 0 where
+  pub walking : Walking b.project section imports a w (state_at m b)
   pub undone : is_done b.made m ≡ false
 
 -- Step 3 and on: m has undone imports, and they are counted.
-pub record Importing (b : Behind) (section to heads next list groups : List ℕ) (w : ModuleWalk) (m count : ℕ) : Type 0 where
-  pub undone : Undone b section to heads next list groups w m
+pub record Importing (b : Behind) (section : List ℕ) (imports : Imports) (a : Arrays) (w : ModuleWalk) (m count : ℕ) : Type 0 where
+  pub undone : Undone b section imports a w m
   pub counted : count ≡ length (undone_imports b.project b.made m)
   pub some : 0 < count
 
 -- Step 4: the circle of m is gathered, and it is not empty.
-pub record Circled (b : Behind) (to heads next list groups : List ℕ) (w : ModuleWalk) (m : ℕ) (circle : List ℕ) (g : Gathered) : Type 0 where
+pub record Circled (b : Behind) (imports : Imports) (a : Arrays) (w : ModuleWalk) (m : ℕ) (circle : Gathered) : Type 0 where
   pub section : List ℕ
-  pub undone : Undone b section to heads next list groups w m
+  pub undone : Undone b section imports a w m
   pub importing : is_empty (undone_imports b.project b.made m) ≡ false
-  pub gathers : Gathers circle g
-  pub same : gathered_on circle g ≡ circle_of b.project m
-  pub some : 0 < g.count
+  pub same : gathered_on circle ≡ circle_of b.project m
+  pub some : 0 < circle.count
 
 -- Step 4, "Some": undone imports of the circle lie outside it, and they are counted.
-pub record Leaving (b : Behind) (to heads next list groups : List ℕ) (w : ModuleWalk) (m : ℕ) (circle : List ℕ) (g : Gathered) (count : ℕ) : Type 0 where
-  pub circled : Circled b to heads next list groups w m circle g
+pub record Leaving (b : Behind) (imports : Imports) (a : Arrays) (w : ModuleWalk) (m : ℕ) (circle : Gathered) (count : ℕ) : Type 0 where
+  pub circled : Circled b imports a w m circle
   pub counted : count ≡ length (outside_imports b.project b.made (circle_of b.project m))
   pub some : 0 < count
 
@@ -130,17 +129,16 @@ pub record Holds (groups : List ℕ) (w : ModuleWalk) (s : ModuleState) : Type 0
   pub bytes : take w.used groups ≡ group_bytes (groups_in_order s)
 
 -- What the grouping of a project relies on: the parts of it that the module walk reads, as an accepted project has them.
-pub record Groupable (p : Project) (rows section : List ℕ) (count first : ℕ) (groups : List ℕ) : Type 0 where
+pub record Groupable (p : Project) (rows section : List ℕ) (count first : ℕ) : Type 0 where
   pub accepted : Accepted p
   pub modules : p.modules ≡ count
   pub entry : p.entry ≡ first
   pub imports : p.imports ≡ pair_rows import_row rows
   pub circles : p.circles ≡ circle_lists section
   pub sound : bad_circles module_limit 0 section ≡ false
-  pub groups-size : length groups ≡ module_limit * (module_limit + 1)
 
 -- Between two visits of a run: `first` is the state that the run began with.
-pub record Running (p : Project) (section to heads next : List ℕ) (allowance : ℕ) (first : ModuleState) (list groups : List ℕ) (w : ModuleWalk) (made : ℕ) : Type 0 where
+pub record Running (p : Project) (section : List ℕ) (imports : Imports) (allowance : ℕ) (first : ModuleState) (a : Arrays) (w : ModuleWalk) (made : ℕ) : Type 0 where
   pub state : ModuleState
-  pub walking : Walking p section to heads next list groups w state
+  pub walking : Walking p section imports a w state
   pub same : run (module_walk p) module_list_limit allowance 0 first ≡ run (module_walk p) module_list_limit (allowance - made) made state

@@ -1,10 +1,10 @@
-// The imports of a project laid out for the module walk, and those of a circle's members that are open: neither done nor in the circle.
-ghost use Rattle.std.specs.Prelude.{◌<◌, ◌≡◌, length};
-ghost use Rattle.rules.specs.Project.{module_limit, import_row, pair_rows};
-ghost use Rattle.lists.specs.Stacks.{placed_below, Placeable, Placed};
-ghost use Rattle.chunk.specs.Imports.{FitRows, Fresh, Chains, Laid, is_open, open_of, open_imports, Members};
+// The imports of a project laid out for the module walk, and those of a circle's members that are open.
+ghost use Rattle.std.specs.Prelude.{ℕ, ◌<◌, ◌≡◌, length, get_or};
+ghost use Rattle.rules.specs.Project.{module_limit};
 
-use lists::{bits, pairs};
+use crate::open::Open;
+use lists::chains::Chains;
+use lists::pairs::Pairs;
 use project::reader::Reader;
 use project::sections::ImportRow;
 use project::{Layout, ModuleId};
@@ -12,142 +12,102 @@ use project::{Layout, ModuleId};
 // The words of a set of pairs of modules, a bit for each.
 const PAIR_WORDS: usize = Layout::MODULE_ROOM * Layout::MODULE_ROOM / 64;
 
-// Lays the imports out: the different rows, and for each module the chain of its imports.
-pub fn lay_out(section: &[u8], to: &mut [u16], heads: &mut [u16], next: &mut [u16])
-    requires fit_rows { FitRows (pair_rows import_row section.now) }
-    requires fresh { Fresh to.old heads.old next.old }
-    ensures { Laid (pair_rows import_row section.now) to.new heads.new next.new }
-{
-    let mut seen = [0u64; PAIR_WORDS];
-    let mut from = [0u16; Layout::IMPORT_ROOM];
-    let mut n = 0;
-    for row in Reader::<ImportRow>::new(section) {
-        n = pairs::add(
-            &mut seen,
-            &mut from,
-            to,
-            n,
-            Layout::MODULE_ROOM,
-            row.importer.0 as u16,
-            row.imported.0 as u16,
-        );
-    }
-    pairs::link(&from, n, heads, next);
+// The different import rows as pairs of modules, and for each module the chain of its rows.
+#[derive(Drop)]
+pub struct Imports {
+    pub rows: Pairs<PAIR_WORDS, { Layout::IMPORT_ROOM }>,
+    pub chains: Chains<{ Layout::MODULE_ROOM }, { Layout::IMPORT_ROOM }>,
+    pub ghost below: { (i : ℕ) → get_or rows.to i 0 < module_limit },
 }
 
-// Whether an import counts: it is neither done nor in the circle.
-pub fn is_open(d: ModuleId, done: u64, circle: u64) -> bool
-    requires { d.0 < module_limit }
-    ensures { result ≡ is_open done circle d.0 }
-{
-    !bits::has(done, d.0) && !bits::has(circle, d.0)
-}
+impl Imports {
+    ghost use Rattle.rules.specs.Project.{import_row, pair_rows};
+    ghost use Rattle.lists.specs.Stacks.{placed_below, Placeable, Placed};
+    ghost use Rattle.chunk.specs.Imports.{FitRows, Fresh, Laid, Members, open_left, open_of, open_imports};
 
-// How many open imports m has.
-pub fn count_open(
-    to: &[u16],
-    heads: &[u16],
-    next: &[u16],
-    m: ModuleId,
-    done: u64,
-    circle: u64,
-) -> usize
-    requires chains { Chains to.now heads.now next.now }
-    requires m_lt_module_limit { m.0 < module_limit }
-    ensures { result ≡ length (open_of to.now heads.now next.now done circle m.0) }
-{
-    let mut n = 0;
-    let mut e = heads[m.0 as usize] as usize;
-    while e != 0 {
-        if is_open(ModuleId(to[e - 1] as u8), done, circle) {
-            n += 1;
+    // No rows.
+    pub fn new() -> Self
+        ensures { Fresh result }
+    {
+        Self {
+            rows: Pairs::new(),
+            chains: Chains::new(),
         }
-        e = next[e - 1] as usize;
     }
-    n
-}
 
-// Puts the open imports of m below `top`, the first uppermost; the index of the last.
-pub fn place_open(
-    to: &[u16],
-    heads: &[u16],
-    next: &[u16],
-    m: ModuleId,
-    done: u64,
-    circle: u64,
-    list: &mut [u8],
-    top: usize,
-) -> usize
-    requires chains { Chains to.now heads.now next.now }
-    requires m_lt_module_limit { m.0 < module_limit }
-    requires placeable { Placeable top (open_of to.now heads.now next.now done circle m.0) list.old }
-    ensures { Placed top (open_of to.now heads.now next.now done circle m.0) list.old list.new result }
-{
-    let mut at = top;
-    let mut e = heads[m.0 as usize] as usize;
-    while e != 0 {
-        let d = ModuleId(to[e - 1] as u8);
-        if is_open(d, done, circle) {
+    // Lays the rows of an imports section out.
+    pub fn lay_out(&mut self, section: &[u8])
+        requires fit_rows { FitRows (pair_rows import_row section.now) }
+        requires fresh { Fresh self.old }
+        ensures { Laid (pair_rows import_row section.now) self.new }
+    {
+        for row in Reader::<ImportRow>::new(section) {
+            self.rows.add(
+                Layout::MODULE_ROOM,
+                row.importer.0 as u16,
+                row.imported.0 as u16,
+            );
+        }
+        let rows = &self.rows;
+        self.chains.link(&rows.from[..rows.count]);
+    }
+
+    // The open imports of m, in the order of their first rows.
+    pub fn open(&self, m: ModuleId, done: u64, circle: u64) -> Open<'_>
+        requires { m.0 < module_limit }
+        ensures { open_left result ≡ open_of self.now done circle m.0 }
+    {
+        Open {
+            to: &self.rows.to,
+            chain: self.chains.chain(m.0 as usize),
+            done,
+            circle,
+        }
+    }
+
+    // How many they are.
+    fn count_open(&self, m: ModuleId, done: u64, circle: u64) -> usize
+        requires { m.0 < module_limit }
+        ensures { result ≡ length (open_of self.now done circle m.0) }
+    {
+        self.open(m, done, circle).count()
+    }
+
+    // How many open imports the members have together.
+    pub fn count_all(&self, members: &[u8], done: u64, circle: u64) -> usize
+        requires { Members members.now }
+        ensures { result ≡ length (open_imports self.now done circle members.now) }
+    {
+        let mut n = 0;
+        for &member in members {
+            n += self.count_open(ModuleId(member), done, circle);
+        }
+        n
+    }
+
+    // Puts the open imports of m below `top`, the first uppermost; the index of the last.
+    fn place_open(&self, m: ModuleId, done: u64, circle: u64, list: &mut [u8], top: usize) -> usize
+        requires m_lt_module_limit { m.0 < module_limit }
+        requires placeable { Placeable top (open_of self.now done circle m.0) list.old }
+        ensures { Placed top (open_of self.now done circle m.0) list.old list.new result }
+    {
+        let mut at = top;
+        for d in self.open(m, done, circle) {
             at -= 1;
             list[at] = d.0;
         }
-        e = next[e - 1] as usize;
+        at
     }
-    at
-}
 
-// How many open imports the members have together.
-pub fn count_all(
-    to: &[u16],
-    heads: &[u16],
-    next: &[u16],
-    members: &[u8],
-    done: u64,
-    circle: u64,
-) -> usize
-    requires chains { Chains to.now heads.now next.now }
-    requires members { Members members.now }
-    ensures { result ≡ length (open_imports to.now heads.now next.now done circle members.now) }
-{
-    let mut n = 0;
-    let mut i = 0;
-    while i < members.len() {
-        n += count_open(to, heads, next, ModuleId(members[i]), done, circle);
-        i += 1;
-    }
-    n
-}
-
-// Puts the open imports of the members below `top`, the first uppermost.
-pub fn place_all(
-    to: &[u16],
-    heads: &[u16],
-    next: &[u16],
-    members: &[u8],
-    done: u64,
-    circle: u64,
-    list: &mut [u8],
-    top: usize,
-)
-    requires chains { Chains to.now heads.now next.now }
-    requires members { Members members.now }
-    requires placeable { Placeable top (open_imports to.now heads.now next.now done circle members.now) list.old }
-    ensures { list.new
-        ≡ placed_below top (open_imports to.now heads.now next.now done circle members.now) list.old }
-{
-    let mut at = top;
-    let mut i = 0;
-    while i < members.len() {
-        at = place_open(
-            to,
-            heads,
-            next,
-            ModuleId(members[i]),
-            done,
-            circle,
-            list,
-            at,
-        );
-        i += 1;
+    // Puts the open imports of the members below `top`, the first uppermost.
+    pub fn place_all(&self, members: &[u8], done: u64, circle: u64, list: &mut [u8], top: usize)
+        requires members { Members members.now }
+        requires placeable { Placeable top (open_imports self.now done circle members.now) list.old }
+        ensures { list.new ≡ placed_below top (open_imports self.now done circle members.now) list.old }
+    {
+        let mut at = top;
+        for &member in members {
+            at = self.place_open(ModuleId(member), done, circle, list, at);
+        }
     }
 }

@@ -12,6 +12,7 @@ use Rattle.std.proofs.lemmas.List.{length-map}
 use Rattle.std.proofs.Math.Seq.{drop-set-lt, get_or-take}
 use borrow.Author.Tests.{eq-eqb, ne_eqb}
 use Rattle.rules.specs.Lists.{cons_if, positions_from}
+use Rattle.laws.specs.Counting.{Below, below-nil, below-cons}
 use Rattle.lists.specs.ArrayLaws.{after-set}
 use Rattle.lists.specs.Pairs.{chain, targets, Onward, Linked}
 
@@ -54,6 +55,13 @@ chain_more : (n bound : ℕ) (next : List ℕ) → ((j : ℕ) → j < n → Onwa
 chain_more n bound next onward h e below =
     chain_same n 0 next next (λ j _. onward j) (λ j _. refl) bound n e (λ z. z, below) (λ z. omega arith) (λ z. omega arith)
 
+-- Its places are below n.
+pub chain-below : (n : ℕ) (next : List ℕ) → ((j : ℕ) → j < n → Onward (suc j) n (get_or next j 0)) → (bound e : ℕ) → e ≤ n → Below n (chain next bound e)
+unfolding chain
+chain-below n next onward zero e h = below-nil
+chain-below n next onward (suc bound) zero h = below-nil
+chain-below n next onward (suc bound) (suc i) h = below-cons h (chain-below n next onward bound (get_or next i 0) (onward i h).1)
+
 -- how many places may stand from an entry on
 unfoldable pub left : ℕ → ℕ → ℕ
 left n zero = zero
@@ -64,7 +72,7 @@ pub targets-end : (to next : List ℕ) (n : ℕ) → targets to next n 0 ≡ []
 unfolding targets
 targets-end to next n = ap (map (λ i. get_or to i 0)) (chain-end next n)
 
-chain-most : (next : List ℕ) (bound e : ℕ) → length (chain next bound e) ≤ bound
+pub chain-most : (next : List ℕ) (bound e : ℕ) → length (chain next bound e) ≤ bound
 unfolding chain
 chain-most next zero e = omega arith
 chain-most next (suc bound) zero = omega arith

@@ -5,5 +5,7 @@ pub mod BitLaws
 pub mod Stacks
 pub mod StackLaws
 pub mod Pairs
+pub mod Chained
 pub mod ChainLaws
+pub mod ChainedLaws
 pub mod PairLaws

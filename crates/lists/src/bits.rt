@@ -39,7 +39,7 @@ pub fn row_insert(words: &mut [u64], k: usize)
     ensures { Inserted k words.old words.new }
 {
     let at = k / 64;
-    words[at] = words[at] | 1u64 << k % 64;
+    words[at] |= 1u64 << k % 64;
 }
 
 // Takes k out of a row of words.
@@ -48,5 +48,5 @@ pub fn row_remove(words: &mut [u64], k: usize)
     ensures { Removed k words.old words.new }
 {
     let at = k / 64;
-    words[at] = words[at] & !(1u64 << k % 64);
+    words[at] &= !(1u64 << k % 64);
 }

@@ -2,4 +2,5 @@
 #![tactic(auto)]
 
 pub mod bits;
+pub mod chains;
 pub mod pairs;

@@ -88,10 +88,9 @@ module _ (bytes : List ℕ) {l : Layout} (a : Accepts bytes l) where
   project-accepted : Accepted p
   project-accepted = read-accepted bytes p a.reads
 
-  pub groupable : (out : List ℕ) → length out ≡ module_limit * (module_limit + 1)
-      → Groupable p (part l.items_end l.imports_end bytes) (part l.imports_end l.circles_end bytes) l.modules l.entry.0 out
+  pub groupable : Groupable p (part l.items_end l.imports_end bytes) (part l.imports_end l.circles_end bytes) l.modules l.entry.0
   unfolding project_of
-  groupable out size =
+  groupable =
       record {
         accepted = project-accepted;
         modules = sym a.modules;
@@ -101,7 +100,6 @@ module _ (bytes : List ℕ) {l : Layout} (a : Accepts bytes l) where
         sound =
             sound-wider p.modules module_limit 0 _ project-accepted.modules-most
             (subst (λ (b : List ℕ). bad_circles p.modules 0 b ≡ false) a.sections.circles (read-passes bytes p a.reads).0.no-bad-circle);
-        groups-size = size;
       }
 
   pub answerable : (allowance : ℕ) {out reply : List ℕ} {ending : Ending} → length out ≡ module_limit * (module_limit + 1)

@@ -17,8 +17,9 @@ ghost use Rattle.sort.specs.Guarantees.{GroupsGuaranteed, OrderGuaranteed};
 ghost use Rattle.sort.specs.Groups.{Answerable};
 ghost use Rattle.sort.specs.Orders.{Walked, Found, Givable};
 
+use chunk::arrays::Arrays;
 use chunk::walk;
-use chunk::walk::{Ending, ModuleWalk};
+use chunk::walk::Ending;
 use order::sort_groups;
 use project::sections::{ItemRow, Row};
 use project::Layout;
@@ -83,11 +84,10 @@ pub fn groups(project: &[u8], reply: &mut [u8], allowance: u32) -> Numbers
     }
 }
 
-// The module walk of an accepted project, whose groups are written to `out`. Where it has not finished, what `out` holds is left free.
-fn find_groups(project: &[u8], l: Layout, out: &mut [u8], allowance: u32) -> Ending
-    requires accepts { Accepts project.now l }
-    requires out_len { length out.old ≡ module_limit * (module_limit + 1) }
-    ensures { Ended (run_modules (project_of project.now) module_list_limit allowance) (Holds out.new) result }
+// The module walk of an accepted project, which leaves its groups in `arrays`. Where it has not finished, what these hold is left free.
+fn find_groups(project: &[u8], l: Layout, arrays: &mut Arrays, allowance: u32) -> Ending
+    requires { Accepts project.now l }
+    ensures { Ended (run_modules (project_of project.now) module_list_limit allowance) (Holds arrays.new.groups) result }
 {
     let items_end = l.items_end;
     let imports_end = l.imports_end;
@@ -97,7 +97,7 @@ fn find_groups(project: &[u8], l: Layout, out: &mut [u8], allowance: u32) -> End
         &project[imports_end..circles_end],
         l.modules,
         l.entry,
-        out,
+        arrays,
         allowance,
     )
 }
@@ -111,9 +111,9 @@ fn groups_of(project: &[u8], l: Layout, reply: &mut [u8], allowance: u32) -> Num
     if reply.len() < m * (m + 1) {
         return refusal(10, 0, 0);
     }
-    let mut out = [0u8; ModuleWalk::GROUPS];
-    let ending = find_groups(project, l, &mut out, allowance);
-    give_groups(ending, &out, reply)
+    let mut arrays = Arrays::new();
+    let ending = find_groups(project, l, &mut arrays, allowance);
+    give_groups(ending, &arrays.groups, reply)
 }
 
 // The answer to a grouping: where it has finished, its bytes are copied to the reply.
@@ -160,9 +160,9 @@ fn order_of(project: &[u8], l: Layout, reply: &mut [u8], allowance: u32) -> Numb
     if reply.len() < (items_end - Layout::START) / ItemRow::BYTES {
         return refusal(10, 0, 0);
     }
-    let mut groups = [0u8; ModuleWalk::GROUPS];
-    let ending = find_groups(project, l, &mut groups, allowance);
-    sort_found(project, l, ending, &groups, reply, allowance)
+    let mut arrays = Arrays::new();
+    let ending = find_groups(project, l, &mut arrays, allowance);
+    sort_found(project, l, ending, &arrays.groups, reply, allowance)
 }
 
 // Goes on from the module walk: where it has finished, its groups are sorted.

@@ -8,7 +8,7 @@ returns-then-reply-m c =
 pub give_groups-requires : goal.give_groups-requires
 give_groups-requires c = (
   _,
-  answerable c.args.project.now c.requires c.args.allowance c.find_groups-ending.auto.out c.if-reply-m.false c.find_groups-ending.ensures,
+  answerable c.args.project.now c.requires c.args.allowance c.find_groups-ending.new.arrays.sizes.1 c.if-reply-m.false c.find_groups-ending.ensures,
 )
 
 pub returns : goal.returns
@@ -16,4 +16,4 @@ returns c =
     let long = c.if-reply-m.false in
     answers-long c.args.project.now c.requires c.args.allowance long
     (c.give_groups.ensures _
-    (answerable c.args.project.now c.requires c.args.allowance c.find_groups-ending.auto.out long c.find_groups-ending.ensures))
+    (answerable c.args.project.now c.requires c.args.allowance c.find_groups-ending.new.arrays.sizes.1 long c.find_groups-ending.ensures))

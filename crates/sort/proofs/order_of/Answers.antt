@@ -9,7 +9,7 @@ pub sort_found-requires : goal.sort_found-requires
 sort_found-requires c =
     record {
       ready = ready c.args.project.now c.requires.accepts c.args.allowance c.args.reply.now c.if-reply-items_end.false c.requires.le_allowance;
-      size = c.find_groups-ending.auto.out;
+      size = c.find_groups-ending.new.arrays.sizes.1;
       ended = c.find_groups-ending.ensures;
     }
 
