@@ -1,0 +1,105 @@
+// One run for both walks: visits against an allowance.
+#![tactic(auto)]
+
+ghost use Rattle.std.specs.Prelude.{ℕ, ◌-◌, ◌≤◌, ◌≡◌, false, List, length, MatchResult};
+ghost use Rattle.rules.specs.Walk.{Walk, run as runs};
+ghost use Rattle.walks.specs.Runs.{Came, Ran};
+
+// What a visit came to, with the state after it.
+#[derive(Clone, Copy)]
+pub enum Outcome<W> {
+    WentOn(W),
+    Placed(W),
+    ListFull,
+}
+
+// How a run stopped before its walk had ended, with the visits made; or that the next visit may need a longer array, as C says.
+#[derive(Clone, Copy)]
+pub enum Stop<C> {
+    Spent(u32),
+    Full(u32),
+    Crowded(C),
+}
+
+// The visits of a walk. `self` is what they read.
+pub trait Visits {
+    // The numbers of a state.
+    type State: Copy;
+    // What the visits write, the arrays that a state stands in among it.
+    type Arrays;
+    // What there is to say where the next visit may need a longer array.
+    type Crowded;
+
+    // What may be walked, and the states that its definition goes through.
+    ghost Walked: { Type 0 };
+
+    ghost Spec: { Type 0 };
+
+    ghost walk: { Walked → Walk Spec };
+
+    // What a state has placed, latest first.
+    ghost Piece: { Type 0 };
+
+    ghost placed: { Spec → List Piece };
+
+    // The most entries that a visit may leave.
+    ghost limit: { ℕ };
+
+    // What is read lays out what is walked, and arrays and numbers show a state of it.
+    ghost Walking: { Walked → Self → Self.Arrays → Self.State → Spec → Type 0 };
+
+    // The arrays have room for whatever one more visit may leave.
+    ghost Room: { Self → Self.Arrays → Self.State → Type 0 };
+
+    ghost Crowds: { Self → Self.Crowded → Type 0 };
+
+    fn has_ended(&self, arrays: &Self::Arrays, w: Self::State) -> bool
+        requires { (x : Walked) × (s : Spec) × Walking x self.now arrays.now w s }
+        ensures { (x : Walked) (s : Spec) → Walking x self.now arrays.now w s → (walk x).ended s ≡ result };
+
+    fn has_room(&self, arrays: &Self::Arrays, w: Self::State) -> Result<(), Self::Crowded>
+        requires { (x : Walked) × (s : Spec) × Walking x self.now arrays.now w s }
+        ensures { MatchResult result (λ _. Room self.now arrays.now w) (λ c. Crowds self.now c) };
+
+    // One visit of a walk that has not ended.
+    fn visit(&self, arrays: &mut Self::Arrays, w: Self::State) -> Outcome<Self::State>
+        requires walking { (x : Walked) × (s : Spec) × Walking x self.now arrays.old w s × ((walk x).ended s ≡ false) }
+        requires room { Room self.now arrays.old w }
+        ensures { (x : Walked) (s : Spec) → Walking x self.now arrays.old w s → (walk x).ended s ≡ false
+            → Came (walk x) limit placed (Walking x self.now arrays.new) s result };
+
+    // A list that is shown is within the limit.
+    ghost within: { (x : Walked) (v : Self) (a : Self.Arrays) (w : Self.State) (s : Spec) → Walking x v a w s
+        → length ((walk x).list s) ≤ limit };
+}
+
+// Visits until the walk has ended, the allowance is spent, the next visit may need a longer array or the list is full, tested in this order; a visit
+// that fills the list counts. `already` visits have been made.
+pub fn run<V: Visits>(
+    walk: &V,
+    arrays: &mut V::Arrays,
+    start: V::State,
+    allowance: u32,
+    already: u32,
+) -> Result<(V::State, u32), Stop<V::Crowded>>
+    requires already_le_allowance { already ≤ allowance }
+    requires walking { (x : V.Walked) × (s : V.Spec) × V.Walking x walk.now arrays.old start s }
+    ensures { (x : V.Walked) (s : V.Spec) → V.Walking x walk.now arrays.old start s
+        → Ran (runs (V.walk x) V.limit (allowance - already) already s) (V.Walking x walk.now arrays.new) (V.Crowds walk.now) result }
+{
+    let mut w = start;
+    let mut made = already;
+    while !walk.has_ended(arrays, w) {
+        if made == allowance {
+            return Err(Stop::Spent(made));
+        }
+        walk.has_room(arrays, w).map_err(Stop::Crowded)?;
+        made += 1;
+        let outcome = walk.visit(arrays, w);
+        let (Outcome::WentOn(after) | Outcome::Placed(after)) = outcome else {
+            return Err(Stop::Full(made));
+        };
+        w = after;
+    }
+    Ok((w, made))
+}
