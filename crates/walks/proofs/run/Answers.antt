@@ -1,29 +1,45 @@
-use Rattle.std.proofs.Common.{rules, ℕ, ◌-◌, ◌≤◌, ◌≡◌, false, List, length, MatchResult, ◌+◌, ◌*◌, ◌<◌, ◌/◌, ◌%◌, Bool, true, nat_eq, nat_lt, [], ◌∷◌, ◌++◌, slice_index_or, slice_set, bit_and, bit_or, Fits, w8, w32, w64, Bor, MutBor}
-use Rattle.rules.specs.Walk.{Walk}
-use Rattle.rules.specs.Walk.{run as runs}
-use Rattle.walks.specs.Runs.{Came, Ran}
+use Rattle.std.proofs.lemmas.Result.{err_from_is_err_and}
+use Rattle.std.proofs.Common.{ℕ, arith, sym, ◌∙◌}
+use Rattle.walks.proofs.RunLaws.{crowds-on, ends, spends, only-full, shown-after, fills, goes_on}
 use Rattle.walks.proofs.run.Goals as goal
 
--- src/lib.rt:94:13
 pub returns-then-made-allowance : goal.returns-then-made-allowance
-returns-then-made-allowance g c = ?
+returns-then-made-allowance g c x s h =
+    let r = c.loop-w.invariant.1 x s h in
+    spends r (c.has_ended.ensures x r.state r.shown ∙ c.loop-w-test.true) c.if-made-allowance.true
 
--- src/lib.rt:96:9
 pub returns-in_err-map_err : goal.returns-in_err-map_err
-returns-in_err-map_err g c = ?
+returns-in_err-map_err g c x s h =
+    let p = err_from_is_err_and c.from_residual.result c.from_residual.ensures.1 in
+    rw (p.1, p.2) (crowds-on _ c.has_room.result c.map_err.result c.has_room.ensures c.map_err.ensures.cases c.in_err-map_err.was)
 
--- src/lib.rt:100:13
 pub returns-in_default : goal.returns-in_default
-returns-in_default g c = ?
+returns-in_default g c x s h =
+    let r = c.loop-w.invariant.1 x s h in
+    let more = c.has_ended.ensures x r.state r.shown ∙ c.loop-w-test.true in
+    fills r more (omega arith) (only-full (c.visit-outcome.ensures x r.state r.shown more) c.in_default.not-WentOn c.in_default.not-Placed)
 
--- src/lib.rt:92:5
 pub loop-w-preserved-in-WentOn : goal.loop-w-preserved-in-WentOn
-loop-w-preserved-in-WentOn g c = ?
+loop-w-preserved-in-WentOn g c = (
+  omega arith,
+  λ x s h.
+      let r = c.loop-w.invariant.1 x s h in
+      let more = c.has_ended.ensures x r.state r.shown ∙ c.loop-w-test.true in
+      let shown = shown-after (c.visit-outcome.ensures x r.state r.shown more) c.in-WentOn.is in
+      goes_on r more (omega arith) (g.met.V.Visits.within x c.args.walk.now _ _ _ shown) shown,
+)
 
--- src/lib.rt:92:5
 pub loop-w-preserved : goal.loop-w-preserved
-loop-w-preserved g c = ?
+loop-w-preserved g c = (
+  omega arith,
+  λ x s h.
+      let r = c.loop-w.invariant.1 x s h in
+      let more = c.has_ended.ensures x r.state r.shown ∙ c.loop-w-test.true in
+      let shown = shown-after (c.visit-outcome.ensures x r.state r.shown more) c.in-WentOn.is in
+      goes_on r more (omega arith) (g.met.V.Visits.within x c.args.walk.now _ _ _ shown) shown,
+)
 
--- src/lib.rt:78:1
 pub returns : goal.returns
-returns g c = ?
+returns g c x s h =
+    let r = c.loop-w.invariant.1 x s h in
+    ends r (c.has_ended.ensures x r.state r.shown ∙ c.loop-w-test.false)
