@@ -31,45 +31,44 @@ pub trait Visits {
     type Crowded;
 
     // What may be walked, and the states that its definition goes through.
-    ghost Walked: { Type 0 };
+    ghost Input: { Type 0 };
 
-    ghost Spec: { Type 0 };
+    ghost SpecState: { Type 0 };
 
-    ghost walk: { Walked → Walk Spec };
+    ghost walk: { Input → Walk SpecState };
 
     // What a state has placed, latest first.
     ghost Piece: { Type 0 };
 
-    ghost placed: { Spec → List Piece };
+    ghost placed: { SpecState → List Piece };
 
     // The most entries that a visit may leave.
     ghost limit: { ℕ };
 
     // What is read lays out what is walked, and arrays and numbers show a state of it.
-    ghost Walking: { Walked → Self → Self.Arrays → Self.State → Spec → Type 0 };
+    ghost IsAt: { Input → Self → Self.Arrays → Self.State → SpecState → Type 0 };
 
     // The arrays have room for whatever one more visit may leave.
-    ghost Room: { Self → Self.Arrays → Self.State → Type 0 };
+    ghost HasRoom: { Self → Self.Arrays → Self.State → Type 0 };
 
     ghost Crowds: { Self → Self.Crowded → Type 0 };
 
-    fn has_ended(&self, arrays: &Self::Arrays, w: Self::State) -> bool
-        requires { (x : Walked) × (s : Spec) × Walking x self.now arrays.now w s }
-        ensures { (x : Walked) (s : Spec) → Walking x self.now arrays.now w s → (walk x).ended s ≡ result };
+    fn has_ended(&self, w: Self::State) -> bool
+        ensures { (x : Input) (a : Self.Arrays) (s : SpecState) → IsAt x self.now a w s → (walk x).ended s ≡ result };
 
     fn has_room(&self, arrays: &Self::Arrays, w: Self::State) -> Result<(), Self::Crowded>
-        requires { (x : Walked) × (s : Spec) × Walking x self.now arrays.now w s }
-        ensures { MatchResult result (λ _. Room self.now arrays.now w) (λ c. Crowds self.now c) };
+        requires { (x : Input) × (s : SpecState) × IsAt x self.now arrays.now w s }
+        ensures { MatchResult result (λ _. HasRoom self.now arrays.now w) (λ c. Crowds self.now c) };
 
     // One visit of a walk that has not ended.
     fn visit(&self, arrays: &mut Self::Arrays, w: Self::State) -> Outcome<Self::State>
-        requires walking { (x : Walked) × (s : Spec) × Walking x self.now arrays.old w s × ((walk x).ended s ≡ false) }
-        requires room { Room self.now arrays.old w }
-        ensures { (x : Walked) (s : Spec) → Walking x self.now arrays.old w s → (walk x).ended s ≡ false
-            → Came (walk x) limit placed (Walking x self.now arrays.new) s result };
+        requires walking { (x : Input) × (s : SpecState) × IsAt x self.now arrays.old w s × ((walk x).ended s ≡ false) }
+        requires room { HasRoom self.now arrays.old w }
+        ensures { (x : Input) (s : SpecState) → IsAt x self.now arrays.old w s → (walk x).ended s ≡ false
+            → Came (walk x) limit placed (IsAt x self.now arrays.new) s result };
 
     // A list that is shown is within the limit.
-    ghost within: { (x : Walked) (v : Self) (a : Self.Arrays) (w : Self.State) (s : Spec) → Walking x v a w s
+    ghost within: { (x : Input) (v : Self) (a : Self.Arrays) (w : Self.State) (s : SpecState) → IsAt x v a w s
         → length ((walk x).list s) ≤ limit };
 }
 
@@ -83,13 +82,13 @@ pub fn run<V: Visits>(
     already: u32,
 ) -> Result<(V::State, u32), Stop<V::Crowded>>
     requires already_le_allowance { already ≤ allowance }
-    requires walking { (x : V.Walked) × (s : V.Spec) × V.Walking x walk.now arrays.old start s }
-    ensures { (x : V.Walked) (s : V.Spec) → V.Walking x walk.now arrays.old start s
-        → Ran (runs (V.walk x) V.limit (allowance - already) already s) (V.Walking x walk.now arrays.new) (V.Crowds walk.now) result }
+    requires walking { (x : V.Input) × (s : V.SpecState) × V.IsAt x walk.now arrays.old start s }
+    ensures { (x : V.Input) (s : V.SpecState) → V.IsAt x walk.now arrays.old start s
+        → Ran (runs (V.walk x) V.limit (allowance - already) already s) (V.IsAt x walk.now arrays.new) (V.Crowds walk.now) result }
 {
     let mut w = start;
     let mut made = already;
-    while !walk.has_ended(arrays, w) {
+    while !walk.has_ended(w) {
         if made == allowance {
             return Err(Stop::Spent(made));
         }

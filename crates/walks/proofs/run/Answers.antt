@@ -6,7 +6,7 @@ use Rattle.walks.proofs.run.Goals as goal
 pub returns-then-made-allowance : goal.returns-then-made-allowance
 returns-then-made-allowance g c x s h =
     let r = c.loop-w.invariant.1 x s h in
-    spends r (c.has_ended.ensures x r.state r.shown ∙ c.loop-w-test.true) c.if-made-allowance.true
+    spends r (c.has_ended.ensures x _ r.state r.shown ∙ c.loop-w-test.true) c.if-made-allowance.true
 
 pub returns-in_err-map_err : goal.returns-in_err-map_err
 returns-in_err-map_err g c x s h =
@@ -16,7 +16,7 @@ returns-in_err-map_err g c x s h =
 pub returns-in_default : goal.returns-in_default
 returns-in_default g c x s h =
     let r = c.loop-w.invariant.1 x s h in
-    let more = c.has_ended.ensures x r.state r.shown ∙ c.loop-w-test.true in
+    let more = c.has_ended.ensures x _ r.state r.shown ∙ c.loop-w-test.true in
     fills r more (omega arith) (only-full (c.visit-outcome.ensures x r.state r.shown more) c.in_default.not-WentOn c.in_default.not-Placed)
 
 pub loop-w-preserved-in-WentOn : goal.loop-w-preserved-in-WentOn
@@ -24,7 +24,7 @@ loop-w-preserved-in-WentOn g c = (
   omega arith,
   λ x s h.
       let r = c.loop-w.invariant.1 x s h in
-      let more = c.has_ended.ensures x r.state r.shown ∙ c.loop-w-test.true in
+      let more = c.has_ended.ensures x _ r.state r.shown ∙ c.loop-w-test.true in
       let shown = shown-after (c.visit-outcome.ensures x r.state r.shown more) c.in-WentOn.is in
       goes_on r more (omega arith) (g.met.V.Visits.within x c.args.walk.now _ _ _ shown) shown,
 )
@@ -34,7 +34,7 @@ loop-w-preserved g c = (
   omega arith,
   λ x s h.
       let r = c.loop-w.invariant.1 x s h in
-      let more = c.has_ended.ensures x r.state r.shown ∙ c.loop-w-test.true in
+      let more = c.has_ended.ensures x _ r.state r.shown ∙ c.loop-w-test.true in
       let shown = shown-after (c.visit-outcome.ensures x r.state r.shown more) c.in-WentOn.is in
       goes_on r more (omega arith) (g.met.V.Visits.within x c.args.walk.now _ _ _ shown) shown,
 )
@@ -42,4 +42,4 @@ loop-w-preserved g c = (
 pub returns : goal.returns
 returns g c x s h =
     let r = c.loop-w.invariant.1 x s h in
-    ends r (c.has_ended.ensures x r.state r.shown ∙ c.loop-w-test.false)
+    ends r (c.has_ended.ensures x _ r.state r.shown ∙ c.loop-w-test.false)

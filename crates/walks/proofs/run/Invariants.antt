@@ -7,8 +7,8 @@ use Rattle.walks.proofs.run.Given as goal
 abbrev pub invariant-loop-w : goal.invariant-loop-w
 invariant-loop-w g l =
     (l.made ≤ l.allowance)
-    × ((x : g.V.Visits.Walked) (first : g.V.Visits.Spec) → g.V.Visits.Walking x l.walk l.initial.arrays l.initial.w first
-    → Running (g.V.Visits.walk x) g.V.Visits.limit (g.V.Visits.Walking x l.walk l.arrays) l.allowance l.already first l.w l.made)
+    × ((x : g.V.Visits.Input) (first : g.V.Visits.SpecState) → g.V.Visits.IsAt x l.walk l.initial.arrays l.initial.w first
+    → Running (g.V.Visits.walk x) g.V.Visits.limit (g.V.Visits.IsAt x l.walk l.arrays) l.allowance l.already first l.w l.made)
 
 abbrev pub decreases-loop-w : goal.decreases-loop-w
 decreases-loop-w g l = l.allowance - l.made
