@@ -6,12 +6,13 @@ use Rattle.walks.specs.declared.Outcome.TheVariants.{WentOn, Placed, ListFull}
 use Rattle.walks.specs.declared.Stop.{Stop}
 use Rattle.walks.specs.declared.Stop.TheVariants.{Spent, Full, Crowded}
 
--- What a visit of state s comes to: the state after it, and whether it placed a piece. Of what a full list leaves nothing is said.
-pub data Came {Spec Piece State : Type 0} (walk : Walk Spec) (limit : ℕ) (placed : Spec → List Piece) (shows : State → Spec → Type 0) (s : Spec)
-    : Outcome State → Type 0 where
-  went_on : {w : State} → placed (walk.visit s) ≡ placed s → shows w (walk.visit s) → Came walk limit placed shows s (WentOn w)
-  placed_one : {w : State} {x : Piece} → placed (walk.visit s) ≡ x ∷ placed s → shows w (walk.visit s) → Came walk limit placed shows s (Placed w)
-  was_full : limit < length (walk.list (walk.visit s)) → Came walk limit placed shows s ListFull
+-- What a visit comes to, t being the state after it and `before` the pieces placed before it: whether it placed one, and what the numbers show of t.
+-- Where the list would be too long, it is `ListFull`, and nothing is said of the arrays.
+pub data Came {Spec Piece State : Type 0} (limit : ℕ) (list : Spec → List ℕ) (placed : Spec → List Piece) (shows : State → Spec → Type 0)
+    (before : List Piece) (t : Spec) : Outcome State → Type 0 where
+  went_on : {w : State} → placed t ≡ before → shows w t → Came limit list placed shows before t (WentOn w)
+  placed_one : {w : State} {x : Piece} → placed t ≡ x ∷ before → shows w t → Came limit list placed shows before t (Placed w)
+  was_full : limit < length (list t) → Came limit list placed shows before t ListFull
 
 -- How a run stops, as the definition's run does; `shows` says what the numbers show of the state where it ended. Or the next visit may need a longer
 -- array, where `crowds` holds.

@@ -1,7 +1,7 @@
 // One run for both walks: visits against an allowance.
 #![tactic(auto)]
 
-ghost use Rattle.std.specs.Prelude.{ℕ, ◌-◌, ◌≤◌, ◌≡◌, false, List, length, MatchResult};
+ghost use Rattle.std.specs.Prelude.{ℕ, ◌-◌, ◌≤◌, ◌≡◌, true, false, List, length, MatchResult};
 ghost use Rattle.rules.specs.Walk.{Walk, run as runs};
 ghost use Rattle.walks.specs.Runs.{Came, Ran};
 
@@ -28,7 +28,7 @@ pub trait Visits {
     // What the visits write, the arrays that a state stands in among it.
     type Arrays;
     // What there is to say where the next visit may need a longer array.
-    type Crowded;
+    type Crowded: Copy;
 
     // What may be walked, and the states that its definition goes through.
     ghost Input: { Type 0 };
@@ -65,7 +65,7 @@ pub trait Visits {
         requires walking { (x : Input) × (s : SpecState) × IsAt x self.now arrays.old w s × ((walk x).ended s ≡ false) }
         requires room { HasRoom self.now arrays.old w }
         ensures { (x : Input) (s : SpecState) → IsAt x self.now arrays.old w s → (walk x).ended s ≡ false
-            → Came (walk x) limit placed (IsAt x self.now arrays.new) s result };
+            → Came limit (walk x).list placed (IsAt x self.now arrays.new) (placed s) ((walk x).visit s) result };
 
     // A list that is shown is within the limit.
     ghost within: { (x : Input) (v : Self) (a : Self.Arrays) (w : Self.State) (s : SpecState) → IsAt x v a w s
@@ -84,7 +84,8 @@ pub fn run<V: Visits>(
     requires already_le_allowance { already ≤ allowance }
     requires walking { (x : V.Input) × (s : V.SpecState) × V.IsAt x walk.now arrays.old start s }
     ensures { (x : V.Input) (s : V.SpecState) → V.IsAt x walk.now arrays.old start s
-        → Ran (runs (V.walk x) V.limit (allowance - already) already s) (V.IsAt x walk.now arrays.new) (V.Crowds walk.now) result }
+        → Ran (runs (V.walk x) V.limit (allowance - already) already s)
+        (λ w t. V.IsAt x walk.now arrays.new w t × ((V.walk x).ended t ≡ true)) (V.Crowds walk.now) result }
 {
     let mut w = start;
     let mut made = already;

@@ -1,6 +1,6 @@
 use Rattle.std.proofs.lemmas.Result.{err_from_is_err_and}
-use Rattle.std.proofs.Common.{ℕ, arith, sym, ◌∙◌}
-use Rattle.walks.proofs.RunLaws.{crowds-on, ends, spends, only-full, shown-after, fills, goes_on}
+use Rattle.std.proofs.Common.{arith, ◌∙◌}
+use Rattle.walks.proofs.RunLaws.{ends, spends, crowds-on, only-full, fills, turned}
 use Rattle.walks.proofs.run.Goals as goal
 
 pub returns-then-made-allowance : goal.returns-then-made-allowance
@@ -25,8 +25,7 @@ loop-w-preserved-in-WentOn g c = (
   λ x s h.
       let r = c.loop-w.invariant.1 x s h in
       let more = c.has_ended.ensures x _ r.state r.shown ∙ c.loop-w-test.true in
-      let shown = shown-after (c.visit-outcome.ensures x r.state r.shown more) c.in-WentOn.is in
-      goes_on r more (omega arith) (g.met.V.Visits.within x c.args.walk.now _ _ _ shown) shown,
+      turned r more (omega arith) (g.met.V.Visits.within x _ _ _) (c.visit-outcome.ensures x r.state r.shown more) c.in-WentOn.is,
 )
 
 pub loop-w-preserved : goal.loop-w-preserved
@@ -35,8 +34,7 @@ loop-w-preserved g c = (
   λ x s h.
       let r = c.loop-w.invariant.1 x s h in
       let more = c.has_ended.ensures x _ r.state r.shown ∙ c.loop-w-test.true in
-      let shown = shown-after (c.visit-outcome.ensures x r.state r.shown more) c.in-WentOn.is in
-      goes_on r more (omega arith) (g.met.V.Visits.within x c.args.walk.now _ _ _ shown) shown,
+      turned r more (omega arith) (g.met.V.Visits.within x _ _ _) (c.visit-outcome.ensures x r.state r.shown more) c.in-WentOn.is,
 )
 
 pub returns : goal.returns
