@@ -21,18 +21,17 @@ pub enum Stop<C> {
     Crowded(C),
 }
 
-// The visits of a walk. `self` is what they read.
-pub trait Visits {
+// The visits of a walk. `self` is what they read; the arrays are what they write, and with the numbers they are a state.
+pub trait Visits<Arrays> {
     // The numbers of a state.
     type State: Copy;
-    // What the visits write, the arrays that a state stands in among it.
-    type Arrays;
     // What there is to say where the next visit may need a longer array.
     type Crowded: Copy;
 
-    // What may be walked, and the states that its definition goes through.
+    // What is walked, and what no visit changes: where arrays are lent, their names.
     ghost Input: { Type 0 };
 
+    // The states of the definition's walk.
     ghost SpecState: { Type 0 };
 
     ghost walk: { Input → Walk SpecState };
@@ -45,38 +44,40 @@ pub trait Visits {
     // The most entries that a visit may leave.
     ghost limit: { ℕ };
 
-    // What is read lays out what is walked, and arrays and numbers show a state of it.
-    ghost IsAt: { Input → Self → Self.Arrays → Self.State → SpecState → Type 0 };
+    // What is read lays out the input, and arrays and numbers show a state that its walk can be in.
+    ghost IsAt: { Input → Self → Arrays → Self.State → SpecState → Type 0 };
 
     // The arrays have room for whatever one more visit may leave.
-    ghost HasRoom: { Self → Self.Arrays → Self.State → Type 0 };
+    ghost HasRoom: { Self → Arrays → Self.State → Type 0 };
 
-    ghost Crowds: { Self → Self.Crowded → Type 0 };
+    // What holds of the input where there may be too little room.
+    ghost Crowds: { Input → Self.Crowded → Type 0 };
 
-    fn has_ended(&self, w: Self::State) -> bool
-        ensures { (x : Input) (a : Self.Arrays) (s : SpecState) → IsAt x self.now a w s → (walk x).ended s ≡ result };
+    fn has_ended(&self, arrays: &Arrays, w: Self::State) -> bool
+        ensures { (x : Input) (s : SpecState) → IsAt x self.now arrays.now w s → (walk x).ended s ≡ result };
 
-    fn has_room(&self, arrays: &Self::Arrays, w: Self::State) -> Result<(), Self::Crowded>
+    fn has_room(&self, arrays: &Arrays, w: Self::State) -> Result<(), Self::Crowded>
         requires { (x : Input) × (s : SpecState) × IsAt x self.now arrays.now w s }
-        ensures { MatchResult result (λ _. HasRoom self.now arrays.now w) (λ c. Crowds self.now c) };
+        ensures { (x : Input) (s : SpecState) → IsAt x self.now arrays.now w s
+            → MatchResult result (λ _. HasRoom self.now arrays.now w) (Crowds x) };
 
     // One visit of a walk that has not ended.
-    fn visit(&self, arrays: &mut Self::Arrays, w: Self::State) -> Outcome<Self::State>
+    fn visit(&self, arrays: &mut Arrays, w: Self::State) -> Outcome<Self::State>
         requires walking { (x : Input) × (s : SpecState) × IsAt x self.now arrays.old w s × ((walk x).ended s ≡ false) }
         requires room { HasRoom self.now arrays.old w }
         ensures { (x : Input) (s : SpecState) → IsAt x self.now arrays.old w s → (walk x).ended s ≡ false
             → Came limit (walk x).list placed (IsAt x self.now arrays.new) (placed s) ((walk x).visit s) result };
 
     // A list that is shown is within the limit.
-    ghost within: { (x : Input) (v : Self) (a : Self.Arrays) (w : Self.State) (s : SpecState) → IsAt x v a w s
+    ghost within: { (x : Input) (v : Self) (a : Arrays) (w : Self.State) (s : SpecState) → IsAt x v a w s
         → length ((walk x).list s) ≤ limit };
 }
 
 // Visits until the walk has ended, the allowance is spent, the next visit may need a longer array or the list is full, tested in this order; a visit
 // that fills the list counts. `already` visits have been made.
-pub fn run<V: Visits>(
+pub fn run<Arrays, V: Visits<Arrays>>(
     walk: &V,
-    arrays: &mut V::Arrays,
+    arrays: &mut Arrays,
     start: V::State,
     allowance: u32,
     already: u32,
@@ -85,11 +86,11 @@ pub fn run<V: Visits>(
     requires walking { (x : V.Input) × (s : V.SpecState) × V.IsAt x walk.now arrays.old start s }
     ensures { (x : V.Input) (s : V.SpecState) → V.IsAt x walk.now arrays.old start s
         → Ran (runs (V.walk x) V.limit (allowance - already) already s)
-        (λ w t. V.IsAt x walk.now arrays.new w t × ((V.walk x).ended t ≡ true)) (V.Crowds walk.now) result }
+        (λ w t. V.IsAt x walk.now arrays.new w t × ((V.walk x).ended t ≡ true)) (V.Crowds x) result }
 {
     let mut w = start;
     let mut made = already;
-    while !walk.has_ended(w) {
+    while !walk.has_ended(arrays, w) {
         if made == allowance {
             return Err(Stop::Spent(made));
         }
