@@ -24,7 +24,7 @@ pub fn number_in_group(rows: &[u16], n: usize, numbers: &[u16], row: ItemId) -> 
     requires { Numbers rows.now n numbers.now × (row.0 < item_limit) }
     ensures { result ≡ number_in (take n rows.now) row.0 }
 {
-    let x = numbers[usize::from(row)];
+    let x = numbers[row.0 as usize];
     if x == 0 {
         return 0;
     }

@@ -73,7 +73,7 @@ fn has_pair(words: &[u64], width: usize, a: NodeId, b: NodeId) -> bool
     requires { Cell width a.0 b.0 words.now }
     ensures { result ≡ bit_at words.now (a.0 * width + b.0) }
 {
-    bits::row_has(words, usize::from(a) * width + usize::from(b))
+    bits::row_has(words, (a.0 as usize) * width + b.0 as usize)
 }
 
 // Notes the pair (x, d) as moved; whether it had moved already.
@@ -81,7 +81,7 @@ fn note(moved: &mut [u64], width: usize, x: NodeId, d: NodeId) -> bool
     requires { Cell width x.0 d.0 moved.old }
     ensures { Noted (x.0 * width + d.0) moved.old moved.new result }
 {
-    let k = usize::from(x) * width + usize::from(d);
+    let k = (x.0 as usize) * width + d.0 as usize;
     if bits::row_has(moved, k) {
         return true;
     }
