@@ -3,22 +3,23 @@ use Prim.Native.Nat.{ℕ, zero, suc, ◌+◌, ◌-◌, ◌≤◌, ◌<◌}
 use native.Mathlib.Omega.{arith}
 use Rattle.std.proofs.Math.Numerals.{add-one}
 use Rattle.std.specs.Prelude.{◌≡◌, Bool, true, false, ◌||◌, leb, drop, set, get_or}
-use Rattle.std.proofs.Math.Path.{refl, sym, ap, subst⁻¹}
-use Rattle.std.proofs.Common.{subst, ◌∙◌, ⊎_elim, length-set, length-append, drop_of_length-le, length-take-le, take_at, take-suc, take_all, take-suc-set, drop-drop}
+use Rattle.std.specs.List.{list_any}
+use Rattle.std.proofs.Math.Path.{ap₂, refl, sym, ap, subst⁻¹}
+use Rattle.std.proofs.Common.{subst, ◌∙◌, ⊎_elim, length-set, length-append, length-take-le, take_at, take-suc, take_all, take-suc-set, drop-drop}
 use Rattle.std.proofs.Math.Bool.{not}
 use mathlib.Core.List.Memᴰ
 use mathlib.Core.List.{List, [], ◌∷◌, ◌++◌, reverse, reverse-cons, flatten}
 use Rattle.std.proofs.Math.Dec.{eqb}
 use Rattle.std.proofs.Math.ListN.{length, take}
 use Rattle.std.proofs.lemmas.List.{length-reverse}
-use Rattle.std.proofs.Math.Seq.{drop-cons, drop-set-lt}
-use borrow.Author.Tests.{eq-eqb, ne_eqb, leb-false, lt-leb}
+use Rattle.std.proofs.Math.Seq.{drop-set-lt}
+use borrow.Author.Tests.{eq-eqb, leb-false, lt-leb}
 use Rattle.rules.specs.Lists.{cons_if, keep, any, up_from, elem, append_new, different}
 use Rattle.rules.specs.Project.{Project, module_limit, circle_lists, bad_circles}
 use Rattle.rules.specs.Circles as rules
 use Rattle.rules.specs.Circles.{following, listed_with, with_found, follow_member, follow_members, follow_module, gathered_of, gather}
 use Rattle.rules.specs.Modules.{circle_of}
-use Rattle.laws.specs.Lists.{◌∈◌, ∈-self, false≢true, not-true, or_right, Tested, holds, fails, tested, any_false, elem-true, elem-false, true-elem, keep-∈, ∈-keep, ∈-append, Once, next, once-snoc, once-keep, once-length, length-parts, once-reverse, once-up_from, ∈-up_from, up_from-∈, length-up_from, append_new-old, append_new-new, ∈-append_new-right}
+use Rattle.laws.specs.Lists.{◌∈◌, ∈-self, false≢true, not-true, or_right, Tested, holds, fails, tested, eqb-sym, any_false, elem-true, elem-false, true-elem, keep-∈, ∈-keep, ∈-append, Once, next, once-snoc, once-keep, once-length, length-parts, once-reverse, once-up_from, ∈-up_from, up_from-∈, length-up_from, append_new-old, append_new-new, ∈-append_new-right}
 use Rattle.laws.specs.Counting.{neither, Below, EachBelow, below-cons, below-nil, below_length}
 use Rattle.laws.specs.Orders.{below-reverse, get_or-∈}
 use Rattle.laws.specs.Accepted.{Accepted}
@@ -31,19 +32,11 @@ use Rattle.chunk.specs.declared.circles.Following.{Following}
 use Rattle.chunk.specs.Marks.{Marks}
 use Rattle.chunk.specs.Circles.{gathered_on, Grows, Appended, Listed, unnoted, unfollowed, Represents, module_followed, members_followed, FollowsModule, FollowsMembers, ModuleReady, CircleReady, CircleGathered}
 
--- Whether a list holds x, from a position on.
-module _ (x : ℕ) (l : List ℕ) (i : ℕ) where
-  pub elem-here : i < length l → get_or l i 0 ≡ x → elem x (drop i l) ≡ true
-  unfolding elem
-  elem-here h e = rw (drop-cons l i 0 h, eq-eqb x (get_or l i 0) (sym e))
-
-  pub elem-later : i < length l → (get_or l i 0 ≡ x → ⊥) → elem x (drop (i + 1) l) ≡ elem x (drop i l)
-  unfolding elem
-  elem-later h n = rw (add-one, drop-cons l i 0 h, ne_eqb x (get_or l i 0) (λ e. n (sym e)))
-
-  pub elem-none : length l ≤ i → elem x (drop i l) ≡ false
-  unfolding elem
-  elem-none h = rw (drop_of_length-le l h)
+-- Whether a list holds x, as the library's `contains` tests it.
+pub elem-contains : (x : ℕ) (l : List ℕ) → list_any (λ y. eqb y x) l ≡ elem x l
+unfolding elem
+elem-contains x [] = refl
+elem-contains x (y ∷ l) = ap₂ (λ (a b : Bool). a || b) (eqb-sym y x) (elem-contains x l)
 
 -- Whether a list with one entry more holds x, and a reversed one.
 or_swap : (a b c : Bool) → (a || (b || c)) ≡ (b || (a || c))

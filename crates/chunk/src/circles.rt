@@ -21,12 +21,7 @@ struct Following {
 fn holds(list: &[u8], m: ModuleId) -> bool
     ensures { result ≡ elem m.0 list.now }
 {
-    for &member in list {
-        if member == m.0 {
-            return true;
-        }
-    }
-    false
+    list.contains(&m.0)
 }
 
 // Gathers the members of every list of the section that holds m.

@@ -4,7 +4,7 @@ use Rattle.rules.specs.Project.{module_limit}
 use Rattle.laws.specs.Lists.{∈-self}
 use Rattle.chunk.specs.Imports.{open_left}
 use Rattle.chunk.proofs.OpenLaws.{open-below}
-use Rattle.chunk.specs.AppendLaws.{appending-start, appending-rest, appending-more, appending-end}
+use Rattle.chunk.specs.AppendLaws.{appending-start, appending-rest, appending-more}
 use Rattle.chunk.proofs.walk.Modules.append_open.Goals as goal
 
 pub loop-d-init : goal.loop-d-init
@@ -23,6 +23,3 @@ loop-d-preserved c = (
   λ x m. c.loop-d.invariant.2 x (rw c.in-Some.ensures.steps (Memᴰ.tail m)),
   appending-more (c.in-Some.d.0 ∷ []) (open_left c.next.new.self) (appending-rest c.in-Some.ensures.steps c.loop-d.invariant.3) c.append_one.ensures,
 )
-
-pub returns : goal.returns
-returns c = appending-end (appending-rest c.in-None.ensures.steps.0 c.loop-d.invariant.3)
