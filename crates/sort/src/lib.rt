@@ -21,8 +21,8 @@ use chunk::arrays::Arrays;
 use chunk::walk;
 use chunk::walk::Ending;
 use order::sort_groups;
-use project::sections::{ItemRow, Row};
 use project::Layout;
+use project::sections::{ItemRow, Row};
 
 // The visits that an allowance of 0 stands for.
 const USUAL_ALLOWANCE: u32 = 20000;
