@@ -20,8 +20,8 @@ ghost use Rattle.sort.specs.Orders.{Walked, Found, Givable};
 use chunk::walk;
 use chunk::walk::{Ending, ModuleWalk};
 use order::sort_groups;
-use project::sections::{ItemRow, Row};
 use project::Layout;
+use project::sections::{ItemRow, Row};
 
 // The visits that an allowance of 0 stands for.
 const USUAL_ALLOWANCE: u32 = 20000;
