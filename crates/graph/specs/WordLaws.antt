@@ -1,5 +1,5 @@
 -- Laws of bit matrices with rows of one word. Assumes nothing.
-use Rattle.std.specs.Prelude.{ℕ, ◌+◌, ◌*◌, ◌-◌, ◌/◌, ◌%◌, ◌^◌, ◌≤◌, ◌<◌, ◌≡◌, refl, Bool, true, false, List, ltb, length, get_or, set}
+use Rattle.std.specs.Prelude.{ℕ, ◌+◌, ◌*◌, ◌-◌, ◌/◌, ◌%◌, ◌^◌, ◌≤◌, ◌<◌, ◌≡◌, refl, Bool, true, false, List, ltb, length, get_or, set, replicate}
 use Rattle.std.proofs.Common.{arith, one-mul, sym, ◌∙◌, shl_exact, eqb-true, eq-eqb, ne_eqb, ltb-true, ltb-false}
 use Rattle.std.proofs.Math.Path.{ap, ap₂}
 use Rattle.std.proofs.Math.Bool.{not, ◌&&◌, ◌||◌, or_assoc, or_comm, or-false, and_assoc, and_comm, and-true, and-false, and-not_self}
@@ -8,8 +8,8 @@ use Rattle.std.specs.Int.Bits.{bit_and, bit_or}
 use Rattle.std.proofs.lemmas.Nat.{and_le_l}
 use Rattle.laws.specs.Lists.{Tested, holds, fails, tested, both, false≢true}
 use Rattle.lists.specs.Bits.{bit, bit_at}
-use Rattle.lists.specs.ArrayLaws.{after-set}
-use Rattle.lists.specs.BitLaws.{bit-or, bit-none, bit-power, bit-less, bit-with, bit-without}
+use Rattle.lists.specs.ArrayLaws.{after-set, zeros-replicate}
+use Rattle.lists.specs.BitLaws.{bit-or, bit-none, bit-power, bit-less, bit-with, bit-without, row-empty}
 use Rattle.graph.specs.Rows.{cleared, cell, RowJoined}
 use Rattle.graph.specs.RowLaws.{column, rows-cleared}
 use Rattle.graph.specs.ReachLaws.{own-set}
@@ -107,13 +107,16 @@ below-room {n} rows matrix size none a h e = go (tested (ltb a n))
     go (fails t) = absurd (false≢true (sym (none a (ltb-false a n t) h) ∙ e))
 
 -- Cleared matrices are the transpose of each other.
-pub transposed-cleared : (n : ℕ) (reach into : List ℕ) → n ≤ 64 → Transposed n (cleared (n * 1) reach) (cleared (n * 1) into)
-transposed-cleared n reach into most =
+pub transposed-cleared : (n : ℕ) (reach : List ℕ) → n ≤ 64 → Transposed n (cleared (n * 1) reach) (replicate 64 0)
+transposed-cleared n reach most =
     record {
-      cells = λ a b h g. rows-cleared 1 n into b a g (omega arith) ∙ sym (rows-cleared 1 n reach a b h (omega arith));
+      cells = λ a b h g. none b a ∙ sym (rows-cleared 1 n reach a b h (omega arith));
       reach-below = λ a b h g f. rows-cleared 1 n reach a b h f;
-      into-below = λ a b h g f. rows-cleared 1 n into a b h f;
+      into-below = λ a b h g f. none a b;
     }
+  where
+    none : (a b : ℕ) → cell 1 (replicate 64 0) a b ≡ false
+    none a b = row-empty (zeros-replicate 64) (a * (64 * 1) + b)
 
 -- The way from x to y: the words as the code computes them, and what entering them gives.
 module _ {n x y : ℕ} {reach into paths : List ℕ} (r : AddRoom 1 n x y reach into paths) where
@@ -133,7 +136,7 @@ module _ {n x y : ℕ} {reach into paths : List ℕ} (r : AddRoom 1 n x y reach 
   column-y = column r.way.reach-rows r.way.second
 
   few : n ≤ 64
-  few = r.into-rows.numbers
+  few = (r.into-rows refl).numbers
 
   before-bits : (a : ℕ) → a < 64 → bit before a ≡ (eqb a x || cell 1 into x a)
   before-bits a h = bit-with (get_or into x 0) x a column-x ∙ rw (cell-one into x a h)
@@ -166,7 +169,7 @@ module _ {n x y : ℕ} {reach into paths : List ℕ} (r : AddRoom 1 n x y reach 
   reach-room = below-room before reach (omega (arith, r.way.reach-rows.size)) none_before
 
   pub into-room : SetRoom beyond into
-  into-room = below-room beyond into (omega (arith, r.into-rows.size)) none-beyond
+  into-room = below-room beyond into (omega (arith, (r.into-rows refl).size)) none-beyond
 
   pub paths-room : SetRoom (bit_and before (2 ^ 64 - 1 - 1 * 2 ^ y % 2 ^ 64)) paths
   paths-room =

@@ -60,10 +60,8 @@ fn enter_reaching(
     requires words_in_bounds { words ≤ length row.now }
     ensures { RowsEntered words n x y (bit_at row.now) reach.old paths.old reach.new paths.new }
 {
-    let mut a = 0;
-    while a < n {
+    for a in 0..n {
         enter_if_arrives(paths, reach, words, a, x, y, row);
-        a += 1;
     }
 }
 

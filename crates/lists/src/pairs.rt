@@ -1,5 +1,5 @@
 // Different pairs of numbers in the order in which they were first added, and for each first number the chain of its pairs.
-ghost use Rattle.std.specs.Prelude.{ℕ, ◌≤◌, ◌<◌, ◌≡◌, length, get_or, drop};
+ghost use Rattle.std.specs.Prelude.{ℕ, ◌≤◌, ◌<◌, ◌≡◌, ◌++◌, length, get_or, drop, replicate};
 ghost use Rattle.lists.specs.Pairs.{Room, Added, Linkable, Linked};
 
 use super::bits;
@@ -72,8 +72,7 @@ impl<const WORDS: usize, const PLACES: usize> Pairs<WORDS, PLACES> {
     pub fn clear(&mut self, words: usize)
         requires { words ≤ WORDS }
         ensures none { self.new.count ≡ 0 }
-        ensures seen { (k : ℕ) → k < words → get_or self.new.seen k 0 ≡ 0 }
-        ensures rest { drop words self.new.seen ≡ drop words self.old.seen }
+        ensures seen { self.new.seen ≡ replicate words 0 ++ drop words self.old.seen }
         ensures from { self.new.from ≡ self.old.from }
         ensures to { self.new.to ≡ self.old.to }
     {
