@@ -9,7 +9,7 @@ use Rattle.rules.specs.Project.{Project}
 use Rattle.rules.specs.Paths.{dependencies_of, dependants_of, DependsOn}
 use Rattle.rules.specs.Items.{is_injected, uninjected_rows, Range, ranges_from, range_of, Group, group_of, kind_of, numbers, same_range, starts, first_list, ItemState, item_state, opened, find_open, waiting, preceding, after_preceding, after_open, visit_item, item_start}
 use Rattle.laws.specs.Lists.{◌∈◌, false≢true, both, Tested, holds, fails, tested, ∈-self, keep-∈}
-use Rattle.laws.specs.Counting.{no_member}
+use Rattle.laws.specs.Counting.{no_member, below-nil}
 use Rattle.laws.specs.Splits.{size, WellFormed}
 use Rattle.laws.proofs.Splits.{true-in_range, range_of-holds, length-kinds, well_formed}
 use Rattle.laws.proofs.ItemWalk.{dependencies_of-∈, dependants_of-∈}
@@ -129,7 +129,7 @@ module _ {p : Project} {modules section next : List ℕ} {entry : ℕ} {s : Spli
       let none = places-none next 0 refl in
       record {
         own = [];
-        along = record { within = λ i m. absurd (Memᴰ.not-nil (subst (λ (l : List ℕ). i ∈ l) none m)); along = ap (map (need_at section)) none };
+        along = record { most = omega arith; within = rw none below-nil; along = ap (map (need_at section)) none };
         few = omega arith;
         formed = formed-same group formed (within e f);
         same = record { sizes = refl; visits = visit-same group formed (within e f) };

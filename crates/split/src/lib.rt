@@ -47,8 +47,8 @@ pub fn push_entries(entries: &[u16], list: &mut [u16], end: usize) -> usize
     n
 }
 
-// The split on arrays. The numbers are those below `count`: of each the row and the kind, and the range of its module, `low` to `high` without `high`;
-// the injected ones, from `uninjected` on, have none. Of each of the modules the start of its range.
+// The split on arrays. Of each number below `count` there are the row, the kind and the range of its module, from `low` to `high` without `high`. The
+// injected numbers, those from `uninjected` on, have no range. Of each module there is the start of its range.
 #[derive(Drop)]
 pub struct Split {
     pub rows: [u16; Layout::ITEM_ROOM],
@@ -67,13 +67,16 @@ impl Split {
     ghost use Rattle.std.specs.Prelude.{false, true};
     ghost use Rattle.rules.specs.Items.{Group, first_list};
     ghost use Rattle.rules.specs.Calls.{item_list_limit};
+    ghost use Rattle.lists.specs.Arrays.{Zeros};
     ghost use Rattle.split.specs.Rows.{RowsShown, rows_as, numbered_as};
     ghost use Rattle.split.specs.Splits.{Numbered, SameRanges, SameNumbers, RangeNoted, RangesNumbered, InjectedNumbered, Splittable, Splits, SplitStored};
     ghost use Rattle.split.specs.FirstLists.{held_by, starts_on, Listable, FirstListed};
 
     // No items.
     pub fn new() -> Self
-        ensures { (result.modules ≡ 0) × (result.uninjected ≡ 0) × (result.count ≡ 0) }
+        ensures counts { (result.modules ≡ 0) × (result.uninjected ≡ 0) × (result.count ≡ 0) }
+        ensures zeros { Zeros item_limit result.rows × Zeros item_limit result.kinds × Zeros item_limit result.low × Zeros item_limit result.high
+            × Zeros module_limit result.starts }
     {
         Self {
             rows: [0; Layout::ITEM_ROOM],

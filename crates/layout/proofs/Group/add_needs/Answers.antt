@@ -6,7 +6,7 @@ use Rattle.layout.proofs.Group.add_needs.Goals as goal
 
 pub loop-row-init : goal.loop-row-init
 loop-row-init g c =
-    rw c.into_iter-row-iterator.ensures.into_iter_gives (refl, refl, c.requires.along.1.within, λ all a shows most. adding-start a shows)
+    rw c.into_iter-row-iterator.ensures.into_iter_gives (refl, refl, λ i m. omega (arith, c.requires.along.1.within i m), λ all a shows most. adding-start a shows)
 
 pub nth-requires : goal.nth-requires
 nth-requires g c =
