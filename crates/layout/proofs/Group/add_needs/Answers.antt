@@ -1,4 +1,4 @@
-use Rattle.std.proofs.Common.{rules, refl, ◌∙◌}
+use Rattle.std.proofs.Common.{rules, arith, refl, ◌∙◌}
 use mathlib.Core.List.Memᴰ
 use Rattle.laws.specs.Lists.{∈-self}
 use Rattle.layout.specs.NeedLaws.{adding-start, adding-room, adding-next, adding-end}
