@@ -1,5 +1,5 @@
 -- Laws of the needs that a walk asks for: none that lie within ranges, so none of uninjected items of one module. Assumes nothing.
-use Rattle.std.specs.Prelude.{ℕ, ◌<◌, ◌≡◌, true, false, length}
+use Rattle.std.specs.Prelude.{ℕ, ◌<◌, ◌≡◌, true, length}
 use Rattle.std.proofs.Common.{arith, sym, ◌∙◌, length-append}
 use Rattle.std.proofs.Math.Path.{refl, ap, subst}
 use mathlib.Core.List.Memᴰ

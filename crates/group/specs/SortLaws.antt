@@ -1,8 +1,7 @@
 -- Laws of the sort of one group. Assumes nothing.
-use Rattle.std.specs.Prelude.{ℕ, ◌≤◌, ◌<◌, ◌≡◌, Result, Ok, Err, length, get_or, take}
+use Rattle.std.specs.Prelude.{ℕ, ◌≤◌, ◌<◌, ◌≡◌, Ok, Err, length, get_or, take}
 use Rattle.std.proofs.Common.{arith, sym, ap, ◌∙◌, length-take-le}
 use Rattle.std.proofs.lemmas.List.{length-map}
-use Rattle.std.proofs.Math.Path.{subst}
 use mathlib.Core.List.{List, reverse}
 use Rattle.rules.specs.Project.{Project}
 use Rattle.rules.specs.Walk.{Stop, finished, run}
@@ -15,14 +14,13 @@ use Rattle.lists.specs.Stacks.{stack}
 use Rattle.split.specs.Splits.{Splittable, Splits}
 use Rattle.layout.specs.NumberLaws.{row_below}
 use Rattle.walks.specs.declared.Stop.{Stop as Stopped}
-use Rattle.walks.specs.declared.Stop.TheVariants.{Spent, Full, Crowded as StopCrowded}
 use Rattle.walks.specs.Runs.{Ran, has_finished, was_spent, list_was_full, was_crowded}
 use Rattle.stmt.specs.declared.walk.ItemWalk.{ItemWalk}
 use Rattle.stmt.specs.declared.walk.Crowded.{Crowded}
 use Rattle.group.specs.declared.Sort.{Sort}
 use Rattle.group.specs.WalkingLaws.{items-are}
 use Rattle.group.specs.Sorts.{rows_of, Given, Sorted}
-use Rattle.group.specs.WriteLaws.{taken, at-number, many-rows, same-rows}
+use Rattle.group.specs.WriteLaws.{at-number, many-rows, same-rows}
 
 -- the run of the modules' group
 abbrev run_of : Project → List ℕ → ℕ → ℕ → Stop ItemState

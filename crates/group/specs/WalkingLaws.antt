@@ -4,7 +4,7 @@ use Rattle.std.proofs.Common.{arith, mul-le-mul, sym, ◌∙◌}
 use Rattle.std.proofs.Math.Path.{subst}
 use mathlib.Core.List.{List}
 use Rattle.rules.specs.Project.{Project, Need}
-use Rattle.rules.specs.Items.{starts as starts_of, numbers as numbers_in, first_list, numbering, group_of, kind_of, Group}
+use Rattle.rules.specs.Items.{starts as starts_of, numbers as numbers_in, first_list, group_of, kind_of, Group}
 use Rattle.laws.specs.Splits.{size}
 use Rattle.laws.proofs.Splits.{length-kinds, length-numbering}
 use Rattle.laws.proofs.FirstList.{first_list-limit}

@@ -12,12 +12,12 @@ returns-then-first_len-clause-ran g c =
 pub new-start-requires : goal.new-start-requires
 new-start-requires g c =
     let known = c.requires.walkable in
-    (search rules, (search rules, (known.0, startable known.2 (omega (arith, c.if-first_len.false, c.first_len.ensures known.0 known.2.listable))))))
+    (search rules, (search rules, (known.0, startable known.2 (omega (arith, c.if-first_len.false, c.first_len.ensures known.0 known.2.listable)))))
 
 pub run-requires : goal.run-requires
 run-requires g c =
     let known = c.requires.walkable in
-    (search rules, (search rules, (omega arith, (known.0, item_start known.0, c.new-start.ensures known.0 (startable known.2 (omega (arith, c.if-first_len.false, c.first_len.ensures known.0 known.2.listable))))))))
+    (search rules, (search rules, (omega arith, (known.0, item_start known.0, c.new-start.ensures known.0 (startable known.2 (omega (arith, c.if-first_len.false, c.first_len.ensures known.0 known.2.listable)))))))
 
 pub returns-clause-ran : goal.returns-clause-ran
 returns-clause-ran g c =

@@ -1,4 +1,4 @@
-use Rattle.std.proofs.Common.{arith, rules, refl, add-zero, sym, ◌∙◌, ◌≡◌, ◌≤◌, ◌<◌, ap, length, take, get_or, get_or-take, length-take-le}
+use Rattle.std.proofs.Common.{arith, rules, refl, add-zero, sym, ◌∙◌, ◌≡◌, ◌≤◌, ◌<◌, length, take, get_or, get_or-take, length-take-le}
 use Rattle.group.specs.SortLaws.{given-count}
 use Rattle.group.specs.WriteLaws.{written-more, written_all}
 use Rattle.group.proofs.Sort.write_rows.Goals as goal
