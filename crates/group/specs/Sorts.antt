@@ -2,6 +2,7 @@
 use Rattle.std.specs.Prelude.{ℕ, ◌*◌, ◌≤◌, ◌<◌, ◌≡◌, List, map, length, get_or, take, Result}
 use Rattle.rules.specs.Project.{Project, item_limit}
 use Rattle.rules.specs.Walk.{Stop}
+use Rattle.rules.specs.Items.{numbering}
 use Rattle.rules.specs.Calls.{item_list_limit}
 use Rattle.split.specs.declared.rows.ItemRows.{ItemRows}
 use Rattle.split.specs.Rows.{RowsShown}
@@ -32,7 +33,8 @@ pub record Given {WORDS NEEDS ENTRIES : ℕ} (rows : List ℕ) (s : Sort WORDS N
   pub numbers-below : (j : ℕ) → j < s.group.split.count → get_or s.arrays.order j 0 < s.group.split.count
   pub rows-below : (x : ℕ) → x < s.group.split.count → get_or s.group.split.rows x 0 < item_limit
 
--- How a sort stops: as the definition does, or where its list has fewer entries than the limit, since the next visit may need more. Where it has
--- finished, the rows are given, and counted.
-abbrev pub Sorted : {WORDS NEEDS ENTRIES : ℕ} → Stop (List ℕ) → Sort WORDS NEEDS ENTRIES → Result (ℕ × ℕ) (Stopped Crowded) → Type 0
-Sorted {ENTRIES = ENTRIES} stop s result = Ran stop (λ n rows. Given rows s × (n ≡ length rows)) (λ c. ENTRIES < item_list_limit) result
+-- How a sort of modules' items stops: as the definition does, or where its list has fewer entries than the limit, since the next visit may need more.
+-- Where it has finished, the rows are given, and counted.
+abbrev pub Sorted : {WORDS NEEDS ENTRIES : ℕ} → Project → List ℕ → Stop (List ℕ) → Sort WORDS NEEDS ENTRIES → Result (ℕ × ℕ) (Stopped Crowded) → Type 0
+Sorted {ENTRIES = ENTRIES} p modules stop s result =
+    Ran stop (λ n rows. Given rows s × (n ≡ length rows) × (n ≡ length (numbering p modules))) (λ c. ENTRIES < item_list_limit) result

@@ -86,7 +86,7 @@ impl<const WORDS: usize, const NEEDS: usize, const ENTRIES: usize> Sort<WORDS, N
         requires already_le_allowance { already ≤ allowance }
         requires sortable { (p : Project) × Sortable WORDS NEEDS p modules.now items.now needs.now own.next.now own.entry }
         ensures { (p : Project) → Sortable WORDS NEEDS p modules.now items.now needs.now own.entry.next.now own.entry.entry
-            → Sorted (sort_modules p modules.now item_list_limit (allowance - already) already) self.new result }
+            → Sorted p modules.now (sort_modules p modules.now item_list_limit (allowance - already) already) self.new result }
     {
         self.group.number_items(items, modules);
         let asked = self.asked(own);

@@ -1,10 +1,6 @@
--- `order::stopped` meets its contract. Assumes nothing.
-use Rattle.order.specs.Orders.{stopped_as}
-use Rattle.order.proofs.stopped.Goals as goal
-
-pub returns-in-Finished : goal.returns-in-Finished
-unfolding stopped_as
-returns-in-Finished c = rw c.in-Finished.is
+-- `stopped` meets its contract. Assumes nothing.
+use Rattle.order.specs.Stops.{stopped_as}
+use Rattle.order.proofs.tables.stopped.Goals as goal
 
 pub returns-in-Spent : goal.returns-in-Spent
 unfolding stopped_as
