@@ -4,3 +4,5 @@ pub mod Stops
 pub mod SortTurnLaws
 pub mod LoopLaws
 pub mod Orders
+pub mod ReadyLaws
+pub mod OrderLaws

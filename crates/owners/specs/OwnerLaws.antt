@@ -136,9 +136,6 @@ noting-start {groups} n none =
 -- The first of the groups left.
 module _ {groups left-groups rest : List (List ℕ)} {members : List ℕ} {left : ℕ} {owners : List ℕ} (s : Noting groups left-groups left owners)
     (first : left-groups ≡ members ∷ rest) where
-  pub noting-some : (0 < left) × (left ≤ module_limit)
-  noting-some = (omega (arith, s.left_is, ap length first), s.left-most)
-
   pub noting-below : Below module_limit members
   noting-below = (rw first at s.members-below) members ∈-self
 

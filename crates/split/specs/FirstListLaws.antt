@@ -118,7 +118,3 @@ module _ {g : Group} {s : Split} (a : Listable g s) where
   unfolding flat_map
   held_more i some =
       rw (add-one, drop-cons (starts_on s) i 0 some, length-append, range-length (get_or (starts_on s) i 0) (start-below i some))
-
-  -- A range's end is no smaller than its start.
-  pub range-forward : (x : ℕ) → x < size g → get_or s.low x 0 ≤ get_or s.high x 0
-  range-forward x h = let r = a.ranges-shown.each x h in omega (arith, r.start, r.end)

@@ -113,13 +113,6 @@ pub record NumberingModules (p : Project) (injected : Bool) (modules rest : List
   pub rows_so : Storing (numbered_as injected p modules) s.count s.rows (numbered_as injected p rest) t.rows t.count
   pub kinds-so : Storing (map (kind_at p) (numbered_as injected p modules)) s.count s.kinds (map (kind_at p) (numbered_as injected p rest)) t.kinds t.count
 
-pub modules-start : (p : Project) (injected : Bool) (modules : List ℕ) (s : Split) → NumberingModules p injected modules modules s s
-modules-start p injected modules s =
-    record {
-      rows_so = storing-start (numbered_as injected p modules) s.count s.rows;
-      kinds-so = storing-start (map (kind_at p) (numbered_as injected p modules)) s.count s.kinds;
-    }
-
 -- the modules from i on
 pub modules-left : (modules : List ℕ) (i : ℕ) → i < length modules → drop i modules ≡ get_or modules i 0 ∷ drop (i + 1) modules
 modules-left modules i h = rw add-one (drop-cons modules i 0 h)

@@ -62,9 +62,6 @@ module _ {A : Type 0} where
     pub storing-end : rest ≡ [] → Stored entries start before now end
     storing-end e = record { whole = sym (ap (sets now end) e) ∙ s.same; count = omega (arith, ap length e, s.count) }
 
-  pub stored-size : {entries : List A} {start : ℕ} {before after : List A} {end : ℕ} → Stored entries start before after end → length after ≡ length before
-  stored-size {entries} {start} {before} d = ap length d.whole ∙ length-sets before start entries
-
   -- Entries stored behind those that were.
   pub stored-behind : {entries more before now after : List A} {start n end : ℕ} → Stored entries start before now n → Stored more n now after end
       → Stored (entries ++ more) start before after end
@@ -76,9 +73,6 @@ module _ {A : Type 0} where
 
   -- Entries stored from the front of an array on.
   module _ {entries before after : List A} {n : ℕ} (d : Stored entries 0 before after n) where
-    pub stored-within : length entries ≤ length before → n ≤ length after
-    stored-within h = omega (arith, d.count, ap length d.whole, length-sets before 0 entries)
-
     pub stored-front : length entries ≤ length before → take n after ≡ entries
     stored-front h =
         let e : n ≡ length entries = omega (arith, d.count) in

@@ -1,12 +1,8 @@
-use Rattle.std.proofs.Common.{arith, refl, ◌-◌, ◌<◌, length}
-use Rattle.rules.specs.Lists.{up_from}
+use Rattle.std.proofs.Common.{arith, ◌-◌, ◌<◌, length}
 use Rattle.laws.specs.Lists.{length-up_from}
-use Rattle.split.specs.PushLaws.{pushing-start, pushing-end, entry-room, entry-next, numbers-last}
+use Rattle.split.specs.PushLaws.{pushing-end, entry-room, entry-next, numbers-last}
 use Rattle.split.proofs.push_numbers.Goals as goal
 use Rattle.split.proofs.push_numbers.Goals.{In-loop-x}
-
-pub loop-x-init : goal.loop-x-init
-loop-x-init c = pushing-start (λ l. l) (up_from c.args.low (c.args.high - c.args.low)) c.args.list.now c.args.end refl
 
 -- there is room for one more number
 room : (c : In-loop-x) → c.loop-x.n < length c.loop-x.list

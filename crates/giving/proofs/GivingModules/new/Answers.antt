@@ -1,20 +1,13 @@
-use Rattle.std.proofs.Common.{ℕ, arith, sym, ◌∙◌, ◌<◌, replicate}
+use Rattle.std.proofs.Common.{ℕ, arith, sym, ◌∙◌, ◌<◌}
 use Rattle.std.proofs.lemmas.List.{length-replicate}
 use Rattle.rules.specs.Project.{module_limit}
 use Rattle.laws.specs.Lists.{∈-left, ∈-right, ∈-self}
 use Rattle.laws.specs.Counting.{Below, below_length}
-use Rattle.split.specs.StoreLaws.{storing-start, storing-as, storing-room, storing-one, storing-end, stored-front}
-use Rattle.giving.specs.Giving.{giving_of}
+use Rattle.split.specs.StoreLaws.{storing-as, storing-room, storing-one, storing-end, stored-front}
 use Rattle.giving.specs.StoreLaws.{kept-taken, kept-passed, kept-none, kept-most}
 use Rattle.giving.proofs.GivingModules.new.Invariants.{test}
 use Rattle.giving.proofs.GivingModules.new.Goals as goal
 use Rattle.giving.proofs.GivingModules.new.Goals.{In-Some, Then-gives}
-
-pub loop-m-init : goal.loop-m-init
-loop-m-init c =
-    let a = c.args in
-    rw (c.into_iter-m-iterator.ensures.into_iter_gives, c.rev-m-items.ensures.source, c.iter.ensures.rest)
-    (tt, tt, c.requires.below, storing-start (giving_of a.used a.givers a.members.now) 0 (replicate 64 0))
 
 -- the member and those before it are modules
 pub gives-requires : goal.gives-requires

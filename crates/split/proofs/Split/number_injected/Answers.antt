@@ -1,14 +1,11 @@
-use Rattle.std.proofs.Common.{ℕ, ◌≡◌, refl, arith, ap₂, ◌∙◌, ◌+◌, ◌-◌, true, length, get_or, drop, drop_of_length-le, replicate, List}
+use Rattle.std.proofs.Common.{ℕ, ◌≡◌, arith, ap₂, ◌∙◌, ◌+◌, ◌-◌, true, length, get_or, drop, drop_of_length-le, replicate, List}
 use Rattle.std.proofs.lemmas.List.{length-replicate}
 use Rattle.std.proofs.lemmas.List.Edits.{sets}
 use Rattle.laws.specs.Orders.{get_or-∈}
 use Rattle.split.specs.Rows.{numbered_as}
 use Rattle.split.specs.StoreLaws.{part-filled}
-use Rattle.split.specs.SplitLaws.{modules-below, modules-start, modules-left, modules-room, modules-step, modules-end}
+use Rattle.split.specs.SplitLaws.{modules-below, modules-left, modules-room, modules-step, modules-end}
 use Rattle.split.proofs.Split.number_injected.Goals as goal
-
-pub loop-m-init : goal.loop-m-init
-loop-m-init c = (omega arith, record { low = refl; high = refl; starts = refl; modules = refl; uninjected = refl }, λ p h. modules-start p true c.args.modules.now _)
 
 pub number_rows-requires : goal.number_rows-requires
 number_rows-requires c =

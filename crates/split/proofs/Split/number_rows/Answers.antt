@@ -40,17 +40,11 @@ room c kept =
 pub overflow_cast-self : goal.overflow_cast-self
 overflow_cast-self c = omega (arith, below (goal.at.overflow_cast-self c).In-Some, c.requires.1.most)
 
-pub offset_bounds-self-n : goal.offset_bounds-self-n
-offset_bounds-self-n c = omega (arith, room (goal.at.offset_bounds-self-n c).After-is_kept_as c.if-is_kept_as.true)
-
 pub bounds-self-n : goal.bounds-self-n
 bounds-self-n c = room (goal.at.bounds-self-n c).After-is_kept_as c.if-is_kept_as.true
 
 pub bounds-self-n-then-is_kept_as : goal.bounds-self-n-then-is_kept_as
 bounds-self-n-then-is_kept_as c = room (goal.at.bounds-self-n-then-is_kept_as c).After-is_kept_as c.if-is_kept_as.true
-
-pub overflow_add-n : goal.overflow_add-n
-overflow_add-n c = omega (arith, room (goal.at.overflow_add-n c).After-is_kept_as c.if-is_kept_as.true)
 
 pub loop-row-preserved-then-is_kept_as : goal.loop-row-preserved-then-is_kept_as
 loop-row-preserved-then-is_kept_as c =
@@ -85,16 +79,11 @@ invariant_of-self-2 c =
     let end = (numbering-rows c.requires.0 c.args.m.0 c.args.injected (c.loop-row.invariant.3 c.requires.0 c.requires.1) c.in-None.ensures.steps.0).count in
     record { sizes = s.sizes; counts = (omega (arith, same.uninjected, c.args.self.now.counts, end), omega (arith, end, c.requires.3), s.counts.2) }
 
-pub returns : goal.returns
-returns c =
-    let same = c.loop-row.invariant.2 in
+pub returns-clause-numbered : goal.returns-clause-numbered
+returns-clause-numbered c =
+    λ p h.
+    let a = c.loop-row.invariant.3 p h in
     record {
-      numbered =
-          λ p h.
-          let a = c.loop-row.invariant.3 p h in
-          record {
-            rows_stored = numbering-rows p c.args.m.0 c.args.injected a c.in-None.ensures.steps.0;
-            kinds-stored = numbering-kinds p c.args.m.0 c.args.injected a c.in-None.ensures.steps.0;
-          };
-      ranges = record { low = same.low; high = same.high; starts = same.starts; modules = same.modules; uninjected = same.uninjected };
+      rows_stored = numbering-rows p c.args.m.0 c.args.injected a c.in-None.ensures.steps.0;
+      kinds-stored = numbering-kinds p c.args.m.0 c.args.injected a c.in-None.ensures.steps.0;
     }

@@ -1,22 +1,7 @@
-use Rattle.std.proofs.Common.{refl, arith, ◌+◌, false, get_or, drop, drop_of_length-le}
+use Rattle.std.proofs.Common.{refl, arith, ◌+◌, get_or, drop, drop_of_length-le}
 use Rattle.laws.specs.Orders.{get_or-∈}
-use Rattle.split.specs.StoreLaws.{storing-start}
-use Rattle.rules.specs.Items.{ranges_from}
-use Rattle.split.specs.Splits.{lows, highs, starts_in}
-use Rattle.split.specs.SplitLaws.{modules-below, modules-most, numbering-most, numbered-parts, modules-start, modules-left, modules-room, modules-step, modules-same, modules-end, ranges-room, ranges-step, low_stored, high-stored, starts-stored}
+use Rattle.split.specs.SplitLaws.{modules-below, modules-most, numbering-most, numbered-parts, modules-left, modules-room, modules-step, modules-same, modules-end, ranges-room, ranges-step, low_stored, high-stored, starts-stored}
 use Rattle.split.proofs.Split.number_uninjected.Goals as goal
-
-pub loop-m-init : goal.loop-m-init
-loop-m-init c =
-    let s = c.args.self.now in
-    λ p h a. (
-      modules-start p false c.args.modules.now _,
-      record {
-        low_so = storing-start (lows (ranges_from p 0 c.args.modules.now)) 0 s.low;
-        high_so = storing-start (highs (ranges_from p 0 c.args.modules.now)) 0 s.high;
-        starts-so = storing-start (starts_in (ranges_from p 0 c.args.modules.now)) 0 s.starts;
-      },
-    )
 
 pub number_rows-requires : goal.number_rows-requires
 number_rows-requires c =

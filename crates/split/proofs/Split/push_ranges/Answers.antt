@@ -2,7 +2,7 @@ use Rattle.std.proofs.Common.{arith, rules, refl, ◌<◌}
 use mathlib.Core.List.{flat_map}
 use Rattle.split.specs.FirstLists.{held_by, starts_on}
 use Rattle.split.specs.FirstListLaws.{push-below, push-room, push-turn}
-use Rattle.split.specs.PushLaws.{pushing-start, pushing-end}
+use Rattle.split.specs.PushLaws.{pushing-start}
 use Rattle.split.proofs.Split.push_ranges.Goals as goal
 use Rattle.split.proofs.Split.push_ranges.Goals.{In-Some}
 
@@ -35,6 +35,3 @@ loop-start-preserved c = (
   tt,
   λ g h. push-turn h (c.loop-start.invariant.2 g h) _ _ c.in-Some.ensures.steps c.push_numbers-n.ensures c.push_numbers-n.auto.list,
 )
-
-pub returns : goal.returns
-returns c = λ g h. pushing-end (held_by g) (c.loop-start.invariant.2 g h) c.in-None.ensures.steps.0
