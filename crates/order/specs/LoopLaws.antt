@@ -1,6 +1,6 @@
 -- Laws of the loops over the groups' turns. Assumes nothing.
-use Rattle.std.specs.Prelude.{ℕ, ◌+◌, ◌-◌, ◌≤◌, ◌<◌, ◌≡◌, refl, Bool, true, false, ◌||◌, Result, Ok, Err, eqb, get_or}
-use Rattle.std.proofs.Common.{arith, subst, ◌∙◌, length-append}
+use Rattle.std.specs.Prelude.{ℕ, ◌+◌, ◌-◌, ◌≤◌, ◌<◌, ◌≡◌, refl, Bool, true, false, ◌||◌, Ok, Err, eqb, get_or}
+use Rattle.std.proofs.Common.{arith, ◌∙◌, length-append}
 use Rattle.std.proofs.Math.Path.{sym, ap}
 use Rattle.std.proofs.Math.Bool.{not}
 use mathlib.Core.List.Memᴰ
@@ -28,7 +28,6 @@ use Rattle.layout.specs.Needs.{OwnNeeds}
 use Rattle.walks.specs.declared.Stop.{Stop as Stopped}
 use Rattle.walks.specs.Runs.{has_finished, was_spent, list_was_full, was_crowded}
 use Rattle.stmt.specs.declared.walk.Crowded.{Crowded as ListCrowded}
-use Rattle.group.specs.Sorts.{Sortable}
 use Rattle.giving.specs.Giving.{Members, Stored}
 use Rattle.split.specs.StoreLaws.{stored-behind}
 use Rattle.order.specs.declared.turns.Turn.{Turn}
@@ -226,3 +225,9 @@ module _ {p : Project} {groups : List (List ℕ)} {turns : Turns} (ready : Ready
     turn-stopped same (was_spent e) = was_spent (stops e)
     turn-stopped same (list_was_full e) = list_was_full (stops e)
     turn-stopped same (was_crowded short) = was_crowded (short, record { rest = members ∷ later; place = rw same s })
+
+-- Where no group is left there are none behind.
+pub none-left : {p : Project} {groups : List (List ℕ)} {allowance : ℕ} {before now : List ℕ} {t : Turn} {rest : List (List ℕ)}
+    → TurningAt p groups allowance before now t rest → t.left ≡ 0 → TurningAt p groups allowance before now t []
+none-left {rest = []} s e = s
+none-left {rest = g ∷ rest} s e = absurd (omega (arith, s.left_is))

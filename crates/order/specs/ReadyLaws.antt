@@ -1,8 +1,8 @@
 -- Laws of the sets that the turns rely on. Assumes nothing.
-use Rattle.std.specs.Prelude.{ℕ, suc, ◌+◌, ◌*◌, ◌≤◌, ◌<◌, ◌≡◌, refl, Bool, true, false, not, ◌&&◌, ◌||◌, List, [], ◌∷◌, eqb, length}
+use Rattle.std.specs.Prelude.{ℕ, suc, ◌*◌, ◌≤◌, ◌<◌, ◌≡◌, refl, Bool, not, ◌&&◌, ◌||◌, List, [], ◌∷◌, eqb, length}
 use Rattle.std.proofs.Common.{arith, mul-le-mul, sym, ap, subst, ◌∙◌, eqb-true, eq-eqb}
 use Rattle.rules.specs.Lists.{is_empty, cons_if, any, positions_from}
-use Rattle.rules.specs.Project.{Item, Import, Project, module_limit, item_limit, need_limit, item_row, import_row, pair_rows}
+use Rattle.rules.specs.Project.{Item, Import, Project, module_limit, need_limit, item_row, import_row, pair_rows}
 use Rattle.rules.specs.Modules.{imports_of}
 use Rattle.rules.specs.Items.{is_kept, kept_rows_of}
 use Rattle.laws.specs.Lists.{◌∈◌, false≢true, Tested, holds, fails, tested, any-true, true-any, eqb-sym}
@@ -97,16 +97,16 @@ module _ {p : Project} {groups : List (List ℕ)} {items imports needs bytes : L
       }
 
   -- the turns go on from one
-  pub going : {turns : Turns} {owners : Owners} {now : List ℕ} {allowance : ℕ} {t : Turn} → Ready p groups turns → turns.items.section.now ≡ items
+  pub going : {turns : Turns} {owners : Owners} {now : List ℕ} {allowance : ℕ} {t : Turn} → Ready p groups turns
       → OwnersShown groups owners.array → length now ≡ length out → Turning p groups allowance out now t
       → Going p groups turns needs owners allowance out now t
-  going r section shown size turning =
+  going r shown size turning =
       record {
         ready = r;
         owned =
             record {
               accepted = o.accepted;
-              items-are = o.items-are ∙ ap (pair_rows item_row) (sym section);
+              items-are = r.rows_shown.section;
               needs-are = o.needs-are;
               owners-shown = shown;
               groups-most = r.groups-most;

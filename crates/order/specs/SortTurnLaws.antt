@@ -1,6 +1,6 @@
 -- Laws of the sort of a group in its turn. Assumes nothing.
-use Rattle.std.specs.Prelude.{ℕ, ◌+◌, ◌≤◌, ◌<◌, ◌≡◌, Result, Ok, Err, length}
-use Rattle.std.proofs.Common.{arith, subst}
+use Rattle.std.specs.Prelude.{ℕ, ◌+◌, ◌≤◌, ◌<◌, ◌≡◌, Ok, Err, length}
+use Rattle.std.proofs.Common.{arith}
 use mathlib.Core.List.{List}
 use Rattle.std.proofs.lemmas.List.Edits.{sets}
 use Rattle.rules.specs.Project.{Project}

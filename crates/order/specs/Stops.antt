@@ -1,10 +1,8 @@
 -- What the turns of groups some of which are sorted rely on and come to. Assumes nothing.
-use Rattle.std.specs.Prelude.{ℕ, ◌+◌, ◌*◌, ◌-◌, ◌≤◌, ◌<◌, ◌≡◌, List, [], length, get_or, Result, Ok, Err}
+use Rattle.std.specs.Prelude.{ℕ, ◌+◌, ◌*◌, ◌-◌, ◌≤◌, ◌<◌, ◌≡◌, List, [], length, get_or, Result}
 use Rattle.rules.specs.Project.{Project, module_limit, item_limit}
-use Rattle.rules.specs.Walk.{Stop, finished}
 use Rattle.rules.specs.Items.{numbering, giving_modules, sort_modules}
 use Rattle.rules.specs.Calls.{item_list_limit, order_groups}
-use Rattle.lists.specs.Bits.{bit}
 use Rattle.graph.specs.Rows.{words_for}
 use Rattle.owners.specs.declared.NeedRows.{NeedRows}
 use Rattle.owners.specs.declared.Owners.{Owners}
@@ -18,7 +16,7 @@ use Rattle.stmt.specs.declared.walk.Crowded.{Crowded as ListCrowded}
 use Rattle.group.specs.Sorts.{Sortable}
 use Rattle.order.specs.declared.turns.Turn.{Turn}
 use Rattle.order.specs.declared.turns.Turns.{Turns}
-use Rattle.order.specs.Turns.{Ready, Taking, Advanced, Turning}
+use Rattle.order.specs.Turns.{Ready, Taking, Turning}
 
 -- How the turns stop where the sort of a group stops in turn t.
 unfoldable pub stopped_as : Turn → Stopped ListCrowded → Stopped Turn

@@ -1,6 +1,6 @@
 -- Laws of the turns of groups. Assumes nothing.
-use Rattle.std.specs.Prelude.{ℕ, ◌+◌, ◌-◌, ◌≤◌, ◌≡◌, refl, Bool, ◌&&◌, List, ◌∷◌, ◌++◌, reverse, length}
-use Rattle.std.proofs.Common.{arith, sym, ◌∙◌, ⊎_elim, length-append}
+use Rattle.std.specs.Prelude.{ℕ, ◌+◌, ◌≤◌, ◌≡◌, refl, Bool, ◌&&◌, List, ◌∷◌, ◌++◌, reverse, length}
+use Rattle.std.proofs.Common.{arith, ◌∙◌, ⊎_elim, length-append}
 use Rattle.std.proofs.Math.Path.{ap, subst}
 use Rattle.std.proofs.Math.Bool.{not}
 use Rattle.rules.specs.Lists.{up_from}
@@ -14,7 +14,6 @@ use Rattle.laws.specs.Runs.{Stopped, at-end, at-allowance, at-limit, stopped}
 use Rattle.laws.specs.ModuleVisit.{is_done-∈, done-now, done-still}
 use Rattle.laws.specs.Terms.{module_of, BelongsTo}
 use Rattle.lists.specs.Bits.{bit}
-use Rattle.split.specs.Rows.{RowsShown}
 use Rattle.giving.specs.Giving.{giving_of, Stored}
 use Rattle.order.specs.declared.turns.Turn.{Turn}
 use Rattle.order.specs.declared.turns.Turns.{Turns}

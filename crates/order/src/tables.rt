@@ -104,7 +104,7 @@ pub fn take_turns<'b, const WORDS: usize, const NEEDS: usize, const ENTRIES: usi
     out: &mut [u8],
     allowance: u32,
 ) -> Result<(usize, u32), Stop<Turn<'b>>>
-    requires bounds { (WORDS ≤ 65536) × (NEEDS < 65536) }
+    requires bounds { (WORDS ≤ 65536) × (NEEDS < 65536) × (ENTRIES ≤ 65536) }
     requires going { (p : Project) × (groups : List (List ℕ)) × (before : List ℕ)
         × Going p groups turns.now needs.now owners.now allowance before out.old first × Sized WORDS NEEDS p }
     ensures { (p : Project) (groups : List (List ℕ)) (before : List ℕ)

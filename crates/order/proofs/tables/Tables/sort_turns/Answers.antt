@@ -4,8 +4,6 @@ use Rattle.owners.specs.GroupBytes.{groups_whole, groups_lists}
 use Rattle.order.specs.LoopLaws.{turn-formed, turn-taking, turn-some, turn-within, turn-kept, sort-turn, turn-sorted, turn-stopped, turn_end}
 use Rattle.order.proofs.tables.Tables.sort_turns.Goals as goal
 use Rattle.order.proofs.tables.Tables.sort_turns.Goals.{In-Some}
-use Rattle.order.specs.Turns.{TurningAt}
-use Rattle.std.specs.Prelude.{◌∷◌}
 
 pub new-members-items-requires : goal.new-members-items-requires
 new-members-items-requires g c = let place = c.requires.3.turning.place in rw place.bytes_left (groups_whole c.requires.3.turning.rest)

@@ -1,6 +1,6 @@
 -- `Turns::keep_groups` meets its contract. The loop's invariant: the groups so far had their turns, and the others are left. Assumes nothing.
 use Rattle.std.proofs.Common.{ℕ, List, length, ◌≡◌}
-use Rattle.rules.specs.Project.{Project, item_limit}
+use Rattle.rules.specs.Project.{Project}
 use Rattle.rules.specs.Calls.{group_bytes}
 use Rattle.order.specs.Turns.{Ready, TurningAt}
 use Rattle.order.proofs.turns.Turns.keep_groups.Given as goal
