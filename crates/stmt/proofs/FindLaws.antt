@@ -1,6 +1,6 @@
 -- Laws of steps 2 and 3: which dependencies of an item are open, and stay. Assumes nothing.
-use Rattle.std.specs.Prelude.{ℕ, suc, ◌+◌, ◌-◌, ◌≤◌, ◌<◌, ◌≡◌, Bool, true, false, not, ◌&&◌, eqb, leb, ltb, length, take, set}
-use Rattle.std.proofs.Common.{arith, refl, sym, ap, subst, ◌∙◌, add-one, length-append, length-take, length-set, take-suc-set}
+use Rattle.std.specs.Prelude.{ℕ, suc, ◌+◌, ◌≤◌, ◌<◌, ◌≡◌, Bool, true, false, not, ◌&&◌, eqb, leb, ltb, length, take, set}
+use Rattle.std.proofs.Common.{arith, refl, sym, ap, subst, ◌∙◌, add-one, length-append, length-take, take-suc-set}
 use Rattle.std.proofs.Math.Bool.{and_assoc, and-false}
 use Rattle.std.proofs.Math.Seq.{append_snoc}
 use mathlib.Core.List.Memᴰ
@@ -8,7 +8,7 @@ use mathlib.Core.List.{List, [], ◌∷◌, ◌++◌, map, reverse, append-nil}
 use Rattle.rules.specs.Lists.{cons_if, keep, elem}
 use Rattle.rules.specs.Project.{Need, item_limit}
 use Rattle.rules.specs.Paths.{dependencies_of}
-use Rattle.rules.specs.Items.{is_injected, may_drop, in_range, range_of, Group, kind_of, path_holds, weight_of, same_range, ItemState, has_moved, Opened, opened, with_open, find_open, is_dropped, placed_of}
+use Rattle.rules.specs.Items.{is_injected, may_drop, in_range, Group, kind_of, path_holds, weight_of, same_range, ItemState, has_moved, Opened, opened, with_open, find_open, is_dropped, placed_of}
 use Rattle.laws.specs.Lists.{Tested, holds, fails, tested, length-parts, once-different}
 use Rattle.laws.specs.Splits.{size, WellFormed}
 use Rattle.laws.specs.Counting.{Below, below_length}
@@ -19,9 +19,9 @@ use Rattle.split.specs.Shown.{RangeIs}
 use Rattle.layout.specs.declared.Group.{Group as GroupArrays}
 use Rattle.stmt.specs.declared.arrays.Arrays.{Arrays}
 use Rattle.stmt.specs.declared.walk.ItemWalk.{ItemWalk}
-use Rattle.stmt.specs.declared.walk.Item.{Item}
-use Rattle.stmt.proofs.StateLaws.{same_moved, moved-again, walking-same, walking-moved, walking-open}
-use Rattle.stmt.specs.Walks.{moved_of, with_moved, Shows, Walking, width, ItemIs, Noted, noted, had-moved, Skipped, stays, staying, Found}
+use Rattle.stmt.specs.declared.steps.Item.{Item}
+use Rattle.stmt.proofs.StateLaws.{Moved, was_fresh, was-moved, same_moved, moved-again, walking-same, walking-moved, walking-open}
+use Rattle.stmt.specs.Walks.{moved_of, with_moved, Walking, width, ItemIs, Skipped, stays, staying, Found}
 
 -- Whether a dependency is in x's range.
 pub range-test : {g : Group} {x low high : ℕ} (d : ℕ) → RangeIs g x low high → same_range g x d ≡ (leb low d && ltb d high)
@@ -64,16 +64,16 @@ module _ {WORDS NEEDS ENTRIES : ℕ} {g : Group} {group : GroupArrays WORDS NEED
       passed-pathless k =
           record { after = moved_of s; walking = walking-same h; step = λ placed rest. rw (outside, uninjected, k, find_open) }
 
-      pub skipped-noted : {a' : Arrays WORDS ENTRIES} {r : Bool} → path_holds g d x.id.0 ≡ true → Noted (size g) (width group) a' w s x.id.0 d r
+      pub skipped-noted : {a' : Arrays WORDS ENTRIES} {r : Bool} → path_holds g d x.id.0 ≡ true → Moved (size g) (width group) a' w s x.id.0 d r
           → Skipped g group a' w s x.id.0 d r
       unfolding find_open
-      skipped-noted k (noted fresh shows) =
+      skipped-noted k (was_fresh fresh shows) =
           record {
             after = (x.id.0, d) ∷ moved_of s;
             walking = walking-moved h ((x.id.0, d) ∷ moved_of s) shows;
             step = λ placed rest. rw (outside, uninjected, k, fresh, find_open);
           }
-      skipped-noted k (had-moved old shows) =
+      skipped-noted k (was-moved old shows) =
           record {
             after = moved_of s;
             walking = walking-moved h (moved_of s) (rw (same_moved s) shows);

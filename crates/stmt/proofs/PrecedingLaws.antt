@@ -1,13 +1,12 @@
 -- Laws of step 5: the items that precede an item. Assumes nothing.
-use Rattle.std.specs.Prelude.{ℕ, suc, ◌+◌, ◌-◌, ◌≤◌, ◌<◌, ◌≡◌, Bool, true, false, not, ◌&&◌, ltb, List, [], ◌∷◌, Option, Some, None}
-use Rattle.std.proofs.Common.{arith, refl, sym, ap, ◌∙◌, lt-ltb, ltb-true, add-one}
+use Rattle.std.specs.Prelude.{ℕ, suc, ◌+◌, ◌-◌, ◌≤◌, ◌<◌, ◌≡◌, true, false, not, ◌&&◌, ltb, List, ◌∷◌, Some, None}
+use Rattle.std.proofs.Common.{arith, ◌∙◌, lt-ltb, ltb-true, add-one}
 use Rattle.rules.specs.Lists.{cons_if, keep, elem, up_from}
 use Rattle.rules.specs.Items.{range_of, numbers_of, Group, has_moved, preceding}
 use Rattle.laws.specs.Lists.{◌∈◌, both, keep-∈, up_from-∈}
 use Rattle.laws.specs.Counting.{no_member}
 use Rattle.laws.proofs.Splits.{in_range-true}
-use Rattle.project.specs.declared.NodeId.{NodeId}
-use Rattle.stmt.specs.declared.walk.Item.{Item}
+use Rattle.stmt.specs.declared.steps.Item.{Item}
 use Rattle.stmt.specs.Walks.{Ranged, First, none, first}
 
 module _ {g : Group} (items : List ℕ) (pairs : List (ℕ × ℕ)) {x : Item} (i : Ranged g x) where

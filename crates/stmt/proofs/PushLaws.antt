@@ -1,6 +1,6 @@
 -- Laws of steps 4 and 5: the dependants that wait are pushed one by one. Assumes nothing.
-use Rattle.std.specs.Prelude.{ℕ, ◌+◌, ◌≤◌, ◌<◌, ◌≡◌, Bool, true, false, not, ◌&&◌, eqb, length, Option, Some, None}
-use Rattle.std.proofs.Common.{arith, refl, sym, ap, subst, ◌∙◌}
+use Rattle.std.specs.Prelude.{ℕ, ◌+◌, ◌≤◌, ◌<◌, ◌≡◌, Bool, true, false, not, ◌&&◌, eqb, length, get_or, Some, None}
+use Rattle.std.proofs.Common.{arith, refl, sym, ap, ◌∙◌}
 use mathlib.Core.List.Memᴰ
 use mathlib.Core.List.{List, [], ◌∷◌, map}
 use Rattle.rules.specs.Lists.{cons_if, keep, elem}
@@ -12,6 +12,7 @@ use Rattle.laws.specs.Lists.{length-parts, once-different}
 use Rattle.laws.specs.Splits.{size, WellFormed}
 use Rattle.laws.specs.Counting.{Below, below_length}
 use Rattle.laws.proofs.ItemWalk.{dependants_of-∈}
+use Rattle.lists.specs.Bits.{bit_at}
 use Rattle.layout.specs.declared.Group.{Group as GroupArrays}
 use Rattle.stmt.specs.declared.arrays.Arrays.{Arrays}
 use Rattle.stmt.specs.declared.walk.ItemWalk.{ItemWalk}
@@ -21,6 +22,12 @@ use Rattle.stmt.proofs.StateLaws.{entry-count, same_list, list-again}
 -- whether a dependant is waiting
 abbrev pub is_waiting : Group → List ℕ → ℕ → Bool
 is_waiting g items d = is_injected (kind_of g d) && not (elem d items)
+
+-- What the test by its kind and the row of items placed says.
+pub waiting-is : {WORDS NEEDS ENTRIES : ℕ} {g : Group} {group : GroupArrays WORDS NEEDS} {a : Arrays WORDS ENTRIES} {w : ItemWalk} {s : ItemState}
+    → Laid g group → Shows (size g) (width group) a w s → {r b : Bool} (d : ℕ) → d < size g
+    → r ≡ (is_injected (get_or group.split.kinds d 0) && not (bit_at a.placed d)) → r ≡ b → is_waiting g (placed_of s) d ≡ b
+waiting-is laid h d f e k = sym (rw (laid.kinds-shown.each d f, h.items.bits d f) at e) ∙ k
 
 dependants-below : {g : Group} → WellFormed g → (x : ℕ) → Below (size g) (dependants_of g.needs x)
 dependants-below {g} f x d m = (f.ends-below d x (dependants_of-∈ g.needs x m)).0

@@ -1,5 +1,5 @@
 -- Laws of a whole visit and of a run: when the walk has ended, the item in front, and what a visit comes to in the walk of a group. Assumes nothing.
-use Rattle.std.specs.Prelude.{ℕ, zero, suc, ◌+◌, ◌-◌, ◌≤◌, ◌<◌, ◌≡◌, Bool, true, false, eqb, length, get_or}
+use Rattle.std.specs.Prelude.{ℕ, zero, suc, ◌-◌, ◌≤◌, ◌<◌, ◌≡◌, true, false, eqb, length, get_or}
 use Rattle.std.proofs.Common.{arith, refl, sym, ap, subst, ◌∙◌, ⊎_elim, eqb-true}
 use Rattle.std.proofs.lemmas.Bool.{eqb-false}
 use mathlib.Core.List.Memᴰ
@@ -7,7 +7,7 @@ use mathlib.Core.List.{List, [], ◌∷◌}
 use Rattle.rules.specs.Lists.{all, elem, up_from}
 use Rattle.rules.specs.Items.{Group, numbers, ItemState, item_state, item_list, placed_of, visit_item, item_walk}
 use Rattle.rules.specs.Calls.{item_list_limit}
-use Rattle.laws.specs.Lists.{◌∈◌, false≢true, ∈-self, Tested, holds, fails, tested, elem-true, true-elem, mem?, all_true, true-all, next, up_from-∈, ∈-up_from, once-up_from, length-up_from, once-length}
+use Rattle.laws.specs.Lists.{◌∈◌, false≢true, Tested, holds, fails, tested, elem-true, true-elem, mem?, all_true, true-all, next, up_from-∈, ∈-up_from, once-up_from, length-up_from, once-length}
 use Rattle.laws.specs.Counting.{below_length, below-cons}
 use Rattle.laws.specs.Splits.{size}
 use Rattle.laws.specs.ItemWalk.{Walked}
@@ -20,7 +20,7 @@ use Rattle.walks.specs.RunLaws.{came-as}
 use Rattle.layout.specs.declared.Group.{Group as GroupArrays}
 use Rattle.stmt.specs.declared.arrays.Arrays.{Arrays}
 use Rattle.stmt.specs.declared.walk.ItemWalk.{ItemWalk}
-use Rattle.stmt.specs.Walks.{moved_of, Shows, Laid, width, Walking, IsAt, SameVisits, Comes}
+use Rattle.stmt.specs.Walks.{moved_of, width, Walking, IsAt, SameVisits, Comes}
 use Rattle.stmt.proofs.StateLaws.{entry-count, items-count}
 use Rattle.stmt.proofs.VisitLaws.{taken}
 

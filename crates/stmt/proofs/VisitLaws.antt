@@ -10,16 +10,13 @@ use Rattle.laws.specs.Lists.{◌∈◌, false≢true, ∈-self, elem-false, both
 use Rattle.laws.specs.Counting.{below_length, below-cons}
 use Rattle.laws.specs.Splits.{size}
 use Rattle.laws.proofs.Splits.{Found as InRanges, found, nowhere, range_of-found}
-use Rattle.walks.specs.declared.Outcome.{Outcome}
-use Rattle.walks.specs.declared.Outcome.TheVariants.{WentOn, Placed, ListFull}
-use Rattle.walks.specs.Runs.{went_on, placed_one, was_full}
 use Rattle.project.specs.declared.NodeId.{NodeId}
 use Rattle.layout.specs.declared.Group.{Group as GroupArrays}
 use Rattle.stmt.specs.declared.arrays.Arrays.{Arrays}
 use Rattle.stmt.specs.declared.walk.ItemWalk.{ItemWalk}
-use Rattle.stmt.specs.declared.walk.Item.{Item}
-use Rattle.stmt.specs.Walks.{moved_of, with_list, with_placed, with_moved, Shows, width, Walking, Fits, Room, Comes, ItemIs, Ranged, Noted, noted, had-moved, staying, Found, Pushed, pushed, no_room, First, none, first}
-use Rattle.stmt.proofs.StateLaws.{entry-count, items-count, some-entry, shows-passed}
+use Rattle.stmt.specs.declared.steps.Item.{Item}
+use Rattle.stmt.specs.Walks.{moved_of, with_list, with_moved, Shows, width, Walking, Fits, Room, ItemIs, Ranged, staying, Found, Pushed, pushed, no_room, First, none, first}
+use Rattle.stmt.proofs.StateLaws.{Moved, was_fresh, was-moved, entry-count, some-entry, shows-passed}
 use Rattle.stmt.proofs.PushLaws.{waiting-entries}
 
 -- What pushing came to.
@@ -100,10 +97,10 @@ module _ (g : Group) (x : ℕ) (rest items : List ℕ) (pairs : List (ℕ × ℕ
         not-true (both {a = not (elem p.0 items) && ltb p.0 x} k.1).1
 
     pub noted-shows : {WORDS ENTRIES n width : ℕ} {a : Arrays WORDS ENTRIES} {w : ItemWalk} {list : List ℕ} {b : Bool}
-        → Noted n width a w (item_state list items pairs) x p.0 b → Shows n width a w (with_moved ((x, p.0) ∷ pairs) (item_state list items pairs))
+        → Moved n width a w (item_state list items pairs) x p.0 b → Shows n width a w (with_moved ((x, p.0) ∷ pairs) (item_state list items pairs))
     unfolding moved_of
-    noted-shows (noted f h) = h
-    noted-shows (had-moved t h) = absurd (false≢true (sym unmoved ∙ t))
+    noted-shows (was_fresh f h) = h
+    noted-shows (was-moved t h) = absurd (false≢true (sym unmoved ∙ t))
 
 -- What steps 3 to 5 make of the open dependencies that stay.
 module _ (g : Group) (x : ℕ) (list items : List ℕ) {after : List (ℕ × ℕ)} where

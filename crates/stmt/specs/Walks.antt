@@ -3,13 +3,14 @@ use Rattle.std.specs.Prelude.{ℕ, ◌+◌, ◌*◌, ◌≤◌, ◌<◌, ◌≡�
 use Rattle.rules.specs.Lists.{elem, keep}
 use Rattle.rules.specs.Project.{item_limit}
 use Rattle.rules.specs.Paths.{dependencies_of}
-use Rattle.rules.specs.Items.{in_range, range_of, Group, first_list, ItemState, item_state, has_moved, Opened, opened, with_open, find_open, is_dropped, kind_of, visit_item, item_list, placed_of, item_walk, item_start}
+use Rattle.rules.specs.Items.{in_range, range_of, Group, first_list, ItemState, item_state, has_moved, Opened, opened, with_open, find_open, is_dropped, kind_of, visit_item, item_list, placed_of}
 use Rattle.rules.specs.Calls.{item_list_limit}
 use Rattle.laws.specs.Splits.{size, WellFormed}
 use Rattle.laws.specs.ItemWalk.{Walked}
 use Rattle.project.specs.declared.NodeId.{NodeId}
-use Rattle.lists.specs.Bits.{bit_at}
+use Rattle.lists.specs.Bits.{bit_at, Inserted}
 use Rattle.lists.specs.Stacks.{stack}
+use Rattle.graph.specs.Rows.{row_words}
 use Rattle.graph.specs.Graph.{Laid as NeedsLaid}
 use Rattle.split.specs.Shown.{Kinds, RangeIs, Ranges}
 use Rattle.split.specs.FirstLists.{Listable}
@@ -18,7 +19,7 @@ use Rattle.walks.specs.declared.Outcome.{Outcome}
 use Rattle.walks.specs.Runs.{Came}
 use Rattle.stmt.specs.declared.arrays.Arrays.{Arrays}
 use Rattle.stmt.specs.declared.walk.ItemWalk.{ItemWalk}
-use Rattle.stmt.specs.declared.walk.Item.{Item}
+use Rattle.stmt.specs.declared.steps.Item.{Item}
 
 -- What arrays show.
 -- Rows of `width` bits show a test on pairs of numbers below n.
@@ -39,15 +40,12 @@ pub record Ordered (n : ℕ) (placed order : List ℕ) (count : ℕ) (items : Li
   pub bits : (x : ℕ) → x < n → bit_at placed x ≡ elem x items
   pub shown : stack order count ≡ items
 
--- The parts of a state, and a state with another list, one more item placed, or other pairs moved.
+-- The pairs that have moved, and a state with another list, or with other pairs moved.
 unfoldable pub moved_of : ItemState → List (ℕ × ℕ)
 moved_of (item_state list placed moved) = moved
 
 abbrev pub with_list : List ℕ → ItemState → ItemState
 with_list list s = item_state list (placed_of s) (moved_of s)
-
-abbrev pub with_placed : ℕ → ItemState → ItemState
-with_placed x s = item_state (item_list s) (x ∷ placed_of s) (moved_of s)
 
 abbrev pub with_moved : List (ℕ × ℕ) → ItemState → ItemState
 with_moved moved s = item_state (item_list s) (placed_of s) moved
@@ -108,10 +106,22 @@ abbrev pub Comes : {WORDS ENTRIES : ℕ} → ℕ → ℕ → Arrays WORDS ENTRIE
 Comes n width a before t o = Came item_list_limit item_list placed_of (Shows n width a) before t o
 
 -- The parts of a visit.
--- Bit b of row a is within the words, and its place does not wrap.
-pub record Cell (width a b : ℕ) (words : List ℕ) : Type 0 where
-  pub within : a * width + b < length words * 64
-  pub most : a * width + b < item_limit * item_limit
+-- Bit b of row a is within the rows of `words` words, and its place does not wrap.
+pub record Cell (words a b : ℕ) (rows : List ℕ) : Type 0 where
+  pub most : words ≤ row_words
+  pub within : a * (64 * words) + b < length rows * 64
+
+-- A pair noted as moved, or one that had moved already.
+pub data Noted (k : ℕ) (old new : List ℕ) : Bool → Type 0 where
+  noted : bit_at old k ≡ false → Inserted k old new → Noted k old new false
+  had-moved : bit_at old k ≡ true → new ≡ old → Noted k old new true
+
+-- All but the list is as it was, or all but the pairs that have moved.
+abbrev pub ListOnly : {WORDS ENTRIES : ℕ} → Arrays WORDS ENTRIES → Arrays WORDS ENTRIES → Type 0
+ListOnly old new = (new.placed ≡ old.placed) × (new.moved ≡ old.moved) × (new.«open» ≡ old.«open») × (new.order ≡ old.order)
+
+abbrev pub MovedOnly : {WORDS ENTRIES : ℕ} → Arrays WORDS ENTRIES → Arrays WORDS ENTRIES → Type 0
+MovedOnly old new = (new.placed ≡ old.placed) × (new.«open» ≡ old.«open») × (new.order ≡ old.order) × (new.list ≡ old.list)
 
 -- An item of the group, with its kind and its range.
 pub record ItemIs (g : Group) (x : Item) : Type 0 where
@@ -123,11 +133,6 @@ pub record ItemIs (g : Group) (x : Item) : Type 0 where
 pub record Ranged (g : Group) (x : Item) : Type 0 where
   pub item : ItemIs g x
   pub inside : in_range x.id.0 (range_of g.ranges x.id.0) ≡ true
-
--- A pair noted as moved, or one that had moved already.
-pub data Noted {WORDS ENTRIES : ℕ} (n width : ℕ) (a : Arrays WORDS ENTRIES) (w : ItemWalk) (s : ItemState) (x d : ℕ) : Bool → Type 0 where
-  noted : has_moved (moved_of s) x d ≡ false → Shows n width a w (with_moved ((x, d) ∷ moved_of s) s) → Noted n width a w s x d false
-  had-moved : has_moved (moved_of s) x d ≡ true → Shows n width a w s → Noted n width a w s x d true
 
 -- Step 2 for a dependency d of x: the state after it, and one step of the definition.
 pub record Skipped {WORDS NEEDS ENTRIES : ℕ} (g : Group) (group : GroupArrays WORDS NEEDS) (a : Arrays WORDS ENTRIES) (w : ItemWalk) (s : ItemState)

@@ -2,4 +2,5 @@
 #![tactic(auto)]
 
 pub mod arrays;
+mod steps;
 pub mod walk;

@@ -1,5 +1,4 @@
 -- `stmt::walk::run` meets its contract. Assumes nothing.
-use Rattle.std.proofs.Common.{rules}
 use Rattle.walks.specs.RunLaws.{ran-as}
 use Rattle.stmt.proofs.RunLaws.{same_self, order-shown}
 use Rattle.stmt.proofs.walk.run.Goals as goal

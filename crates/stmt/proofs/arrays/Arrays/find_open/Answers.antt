@@ -11,6 +11,7 @@ pub loop-d-init : goal.loop-d-init
 loop-d-init g c = (
   tt,
   tt,
+  (refl, refl, refl),
   λ i w s h x.
       finding-start c.args.x.id.0 (rw (c.into_iter-d-iterator.ensures.into_iter_gives) (c.dependencies-d-items.ensures i.needs h.laid.needs-laid (rw h.laid.nodes-is x.below))) h,
 )
@@ -18,13 +19,13 @@ loop-d-init g c = (
 pub skips-requires : goal.skips-requires
 skips-requires g c =
     let r = c.requires in
-    let f = finding-rest c.in-Some.ensures.steps (c.loop-d.invariant.2 r.0 r.1 r.2 r.3 r.4) in
+    let f = finding-rest c.in-Some.ensures.steps (c.loop-d.invariant.3 r.0 r.1 r.2 r.3 r.4) in
     (search rules, (search rules, (r.0, r.1, _, f.walking, r.4, f.below _ ∈-self)))
 
 pub stays-requires : goal.stays-requires
 stays-requires g c =
     let r = c.requires in
-    let f = finding-rest c.in-Some.ensures.steps (c.loop-d.invariant.2 r.0 r.1 r.2 r.3 r.4) in
+    let f = finding-rest c.in-Some.ensures.steps (c.loop-d.invariant.3 r.0 r.1 r.2 r.3 r.4) in
     let k = c.skips.ensures.skipped r.0 r.1 _ f.walking r.4 (f.below _ ∈-self) in
     (search rules, (search rules, (r.0, r.1, _, k.walking, r.4, f.below _ ∈-self)))
 
@@ -33,9 +34,9 @@ room : (g : Over) (c : Then-stays g) → c.loop-d.n < item_limit
 unfolding placed_of
 room g c =
     let r = c.requires in
-    let f = finding-rest c.in-Some.ensures.steps (c.loop-d.invariant.2 r.0 r.1 r.2 r.3 r.4) in
+    let f = finding-rest c.in-Some.ensures.steps (c.loop-d.invariant.3 r.0 r.1 r.2 r.3 r.4) in
     let k = c.skips.ensures.skipped r.0 r.1 _ f.walking r.4 (f.below _ ∈-self) in
-    finding-room f k c.skips.ensures.open_same (ap not c.if-not-skips.true)
+    finding-room f k c.skips.ensures.rest.1 (ap not c.if-not-skips.true)
     (sym (c.stays.ensures r.0 r.1 _ k.walking r.4 (f.below _ ∈-self)) ∙ c.if-stays.true)
 
 pub bounds-self-n : goal.bounds-self-n
@@ -52,10 +53,11 @@ unfolding placed_of
 loop-d-preserved-then-stays g c = (
   tt,
   tt,
+  let k = c.loop-d.invariant.2 in let r = c.skips.ensures.rest in (r.0 ∙ k.0, r.2 ∙ k.1, r.3 ∙ k.2),
   λ i w s h x.
-      let f = finding-rest c.in-Some.ensures.steps (c.loop-d.invariant.2 i w s h x) in
+      let f = finding-rest c.in-Some.ensures.steps (c.loop-d.invariant.3 i w s h x) in
       let k = c.skips.ensures.skipped i w _ f.walking x (f.below _ ∈-self) in
-      finding-kept f k c.skips.ensures.open_same (ap not c.if-not-skips.true)
+      finding-kept f k c.skips.ensures.rest.1 (ap not c.if-not-skips.true)
       (sym (c.stays.ensures i w _ k.walking x (f.below _ ∈-self)) ∙ c.if-stays.true) _ refl refl refl refl refl,
 )
 
@@ -64,15 +66,16 @@ unfolding placed_of
 loop-d-preserved g c = (
   tt,
   tt,
+  let k = c.loop-d.invariant.2 in let r = c.skips.ensures.rest in (r.0 ∙ k.0, r.2 ∙ k.1, r.3 ∙ k.2),
   λ i w s h x.
-      let f = finding-rest c.in-Some.ensures.steps (c.loop-d.invariant.2 i w s h x) in
+      let f = finding-rest c.in-Some.ensures.steps (c.loop-d.invariant.3 i w s h x) in
       let k = c.skips.ensures.skipped i w _ f.walking x (f.below _ ∈-self) in
       elim c.else-not-skips.branch [
         | else-not-skips-via-then-not-skips+else-stays v ↦
-            finding-dropped f k c.skips.ensures.open_same (sym (v.stays.ensures i w _ k.walking x (f.below _ ∈-self)) ∙ v.if-stays.false)
-        | else-not-skips-via-else-not-skips v ↦ finding-skipped f k c.skips.ensures.open_same (ap not v.if-not-skips.false)
+            finding-dropped f k c.skips.ensures.rest.1 (sym (v.stays.ensures i w _ k.walking x (f.below _ ∈-self)) ∙ v.if-stays.false)
+        | else-not-skips-via-else-not-skips v ↦ finding-skipped f k c.skips.ensures.rest.1 (ap not v.if-not-skips.false)
       ],
 )
 
-pub returns : goal.returns
-returns g c i w s h x = finding-end (finding-rest c.in-None.ensures.steps.0 (c.loop-d.invariant.2 i w s h x))
+pub returns-clause-found : goal.returns-clause-found
+returns-clause-found g c i w s h x = finding-end (finding-rest c.in-None.ensures.steps.0 (c.loop-d.invariant.3 i w s h x))

@@ -5,9 +5,9 @@ use Rattle.walks.specs.Runs.{went_on, was_full}
 use Rattle.stmt.proofs.StateLaws.{entry-count, shows_prepended}
 use Rattle.stmt.proofs.arrays.Arrays.put_open.Goals as goal
 
-pub returns-then-w-n-gt-LIST : goal.returns-then-w-n-gt-LIST
+pub returns-then-w-n-gt-LIST-clause-comes : goal.returns-then-w-n-gt-LIST-clause-comes
 unfolding item_list
-returns-then-w-n-gt-LIST g c m width s h =
+returns-then-w-n-gt-LIST-clause-comes g c m width s h =
     let a = c.args in
     was_full
     (omega (
@@ -24,9 +24,9 @@ push_entries-end-requires g c =
     let a = c.args in
     omega (arith, length-take a.n a.self.now.«open», c.requires.5 (a.w.end + a.n) (omega arith) (omega arith), a.self.now.list_size)
 
-pub returns : goal.returns
+pub returns-clause-comes : goal.returns-clause-comes
 unfolding placed_of
-returns g c m width s h =
+returns-clause-comes g c m width s h =
     let a = c.args in
     let count = length-take a.n a.self.now.«open» in
     let pushed = c.push_entries-end.ensures in

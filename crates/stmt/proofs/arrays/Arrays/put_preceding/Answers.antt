@@ -1,11 +1,14 @@
 -- `Arrays::put_preceding` meets its contract. Assumes nothing.
-use Rattle.std.proofs.Common.{rules, arith, refl}
+use Rattle.std.proofs.Common.{rules, arith, refl, ap, ◌+◌, ◌≤◌}
 use Rattle.rules.specs.Items.{item_state, item_list, placed_of}
 use Rattle.walks.specs.Runs.{went_on, was_full}
+use Rattle.stmt.specs.declared.walk.ItemWalk.{ItemWalk}
 use Rattle.stmt.specs.Walks.{moved_of}
-use Rattle.stmt.proofs.StateLaws.{entry-count}
+use Rattle.stmt.proofs.StateLaws.{entry-count, shows-pushed}
 use Rattle.stmt.proofs.VisitLaws.{pushed-shows, pushed-over, front_below, entry-left, taken, taken-room, two_fit}
+use Rattle.stmt.proofs.arrays.Arrays.put_preceding.Given.{Over}
 use Rattle.stmt.proofs.arrays.Arrays.put_preceding.Goals as goal
+use Rattle.stmt.proofs.arrays.Arrays.put_preceding.Goals.{Else-after-gt-LIST}
 
 pub passed-requires : goal.passed-requires
 passed-requires g c = entry-left c.requires.4
@@ -17,46 +20,52 @@ push_waiting-requires g c =
     let e = c.passed.ensures in
     (search rules, (search rules, (r.0, item_state r.1 r.2 r.3, h.laid, taken h e, front_below h, taken-room h e r.5)))
 
-pub returns-in_default : goal.returns-in_default
+pub returns-in_default-clause-comes : goal.returns-in_default-clause-comes
 unfolding item_list placed_of
-returns-in_default g c i rest items pairs h =
-    let over = pushed-over c.in_default.is (c.push_waiting.ensures i _ h.laid (taken h c.passed.ensures) (front_below h)) in
+returns-in_default-clause-comes g c i rest items pairs h =
+    let over = pushed-over c.in_default.is (c.push_waiting.ensures.pushed i _ h.laid (taken h c.passed.ensures) (front_below h)) in
     was_full (omega (arith, over))
 
 pub overflow_add-after : goal.overflow_add-after
 overflow_add-after g c =
     let r = c.requires in
     let h = r.4 in
-    let k = pushed-shows c.in-Some.is (c.push_waiting.ensures r.0 _ h.laid (taken h c.passed.ensures) (front_below h)) in
+    let k = pushed-shows c.in-Some.is (c.push_waiting.ensures.pushed r.0 _ h.laid (taken h c.passed.ensures) (front_below h)) in
     omega (arith, k.entries.within)
 
-pub returns-then-after-gt-LIST : goal.returns-then-after-gt-LIST
+pub returns-then-after-gt-LIST-clause-comes : goal.returns-then-after-gt-LIST-clause-comes
 unfolding item_list placed_of
-returns-then-after-gt-LIST g c i rest items pairs h =
-    let k = pushed-shows c.in-Some.is (c.push_waiting.ensures i _ h.laid (taken h c.passed.ensures) (front_below h)) in
+returns-then-after-gt-LIST-clause-comes g c i rest items pairs h =
+    let k = pushed-shows c.in-Some.is (c.push_waiting.ensures.pushed i _ h.laid (taken h c.passed.ensures) (front_below h)) in
     was_full (omega (arith, entry-count k, c.if-after-gt-LIST.true))
 
-pub push-behind-requires : goal.push-behind-requires
+-- two more fit
+room : (g : Over) (c : Else-after-gt-LIST g) → c.in-Some.after.end + 2 ≤ g.row.ENTRIES
 unfolding item_list placed_of
-push-behind-requires g c =
+room g c =
     let r = c.requires in
     let h = r.4 in
-    let k = pushed-shows c.in-Some.is (c.push_waiting.ensures r.0 _ h.laid (taken h c.passed.ensures) (front_below h)) in
-    let fit = two_fit h k r.5 (omega arith) in
-    (search rules, (omega arith, omega arith))
+    let k = pushed-shows c.in-Some.is (c.push_waiting.ensures.pushed r.0 _ h.laid (taken h c.passed.ensures) (front_below h)) in
+    two_fit h k r.5 (omega arith)
+
+pub push-behind-requires : goal.push-behind-requires
+push-behind-requires g c =
+    let fit = room g (goal.at.push-behind-requires g c).Else-after-gt-LIST in
+    (search rules, omega arith)
 
 pub push-requires : goal.push-requires
-unfolding item_list placed_of
 push-requires g c =
-    let r = c.requires in
-    let h = r.4 in
-    let k = pushed-shows c.in-Some.is (c.push_waiting.ensures r.0 _ h.laid (taken h c.passed.ensures) (front_below h)) in
-    let fit = two_fit h k r.5 (omega arith) in
-    let one = entry-count (c.push-behind.ensures _ _ _ k) in
-    (search rules, (omega (arith, entry-count k), omega (arith, entry-count k)))
+    let fit = room g (goal.at.push-requires g c).Else-after-gt-LIST in
+    let one = ap (λ (w : ItemWalk). w.end) c.push-behind.ensures.numbers in
+    (search rules, omega arith)
 
-pub returns : goal.returns
+pub returns-clause-comes : goal.returns-clause-comes
 unfolding item_list placed_of moved_of
-returns g c i rest items pairs h =
-    let k = pushed-shows c.in-Some.is (c.push_waiting.ensures i _ h.laid (taken h c.passed.ensures) (front_below h)) in
-    went_on refl (c.push.ensures _ _ _ (c.push-behind.ensures _ _ _ k))
+returns-clause-comes g c i rest items pairs h =
+    let k = pushed-shows c.in-Some.is (c.push_waiting.ensures.pushed i _ h.laid (taken h c.passed.ensures) (front_below h)) in
+    let fit = room g (goal.at.returns-clause-comes g c).Else-after-gt-LIST in
+    let a = c.push-behind.ensures in
+    let b = c.push.ensures in
+    let one = ap (λ (w : ItemWalk). w.end) a.numbers in
+    let behind = shows-pushed k {a' = c.push-behind.new.self} c.args.x.0 a.numbers a.list a.rest (omega (arith, c.if-after-gt-LIST.false)) (omega arith) in
+    went_on refl (shows-pushed behind c.args.p.0 b.numbers b.list b.rest (omega (arith, c.if-after-gt-LIST.false)) (omega arith))
