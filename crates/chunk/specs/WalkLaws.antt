@@ -1,6 +1,7 @@
 -- Laws for the proofs of src/walk.rt. Assumes nothing.
-use Rattle.std.specs.Prelude.{ℕ, suc, ◌+◌, ◌-◌, ◌<◌, ◌≡◌, refl, true, false, List, [], ◌∷◌, ◌++◌, length, take, set}
-use Rattle.std.proofs.Common.{arith, add-one, take-suc-set}
+use Rattle.std.specs.Prelude.{ℕ, suc, ◌+◌, ◌-◌, ◌<◌, ◌≡◌, refl, true, false, eqb, List, [], ◌∷◌, ◌++◌, length, take, set}
+use Rattle.std.proofs.Common.{arith, add-one, sym, take-suc-set}
+use Rattle.std.proofs.lemmas.Bool.{ne_eqb}
 use Rattle.std.proofs.Math.Seq.{append_snoc}
 use Rattle.rules.specs.Lists.{is_empty, up_from}
 use Rattle.lists.specs.Stacks.{stack}
@@ -16,6 +17,11 @@ pub empty-some : (l : List ℕ) → 0 < length l → is_empty l ≡ false
 unfolding is_empty
 empty-some [] h = absurd (omega arith)
 empty-some (x ∷ l) h = refl
+
+pub empty-length : (l : List ℕ) → is_empty l ≡ eqb (length l) 0
+unfolding is_empty
+empty-length [] = refl
+empty-length (x ∷ l) = sym (ne_eqb (suc (length l)) 0 (λ e. omega (arith, e)))
 
 -- The list is filled from below, the largest number first.
 pub fill_more : (a : List ℕ) (n i : ℕ) → i < n → i < length a → stack a i ≡ up_from (n - i) i → stack (set a i (n - 1 - i)) (i + 1) ≡ up_from (n - (i + 1)) (i + 1)
