@@ -1,5 +1,5 @@
 -- What the functions of src/walk.rt require and guarantee: how arrays and numbers stand for a state of the module walk. Assumes nothing.
-use Rattle.std.specs.Prelude.{ℕ, ◌+◌, ◌*◌, ◌-◌, ◌≤◌, ◌<◌, ◌≡◌, false, ◌||◌, List, ◌∷◌, ◌++◌, length, take}
+use Rattle.std.specs.Prelude.{ℕ, ◌+◌, ◌*◌, ◌≤◌, ◌<◌, ◌≡◌, false, ◌||◌, List, ◌∷◌, ◌++◌, length, take}
 use Rattle.rules.specs.Lists.{is_empty, elem}
 use Rattle.rules.specs.Project.{Project, module_limit, import_limit, import_row, pair_rows, circle_lists, bad_circles}
 use Rattle.rules.specs.Modules.{ModuleState, module_state, module_list, groups_of, groups_in_order, is_done, undone_imports, circle_of, outside_imports, visit_module, module_start}

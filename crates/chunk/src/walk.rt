@@ -8,14 +8,13 @@ ghost use Rattle.chunk.specs.Imports.{Members, open_of, open_imports};
 ghost use Rattle.walks.specs.Runs.{Ran};
 ghost use Rattle.chunk.specs.Walks.{Started, Written, Grouped, Expandable, Expanded, Visited, Behind, state_at, Undone, Importing, Circled, Leaving, Holds, Groupable};
 
-use std::convert::Infallible;
-
 use crate::arrays::Arrays;
 use crate::circles;
 use crate::gathered::Gathered;
 use crate::imports::Imports;
 use lists::bits;
 use project::{Layout, ModuleId};
+use std::convert::Infallible;
 use walks::{Outcome, Stop, Visits};
 
 // The numbers of the walk's state: the end of the list, the modules done and marked, and the groups made with the bytes that they take.
@@ -41,8 +40,8 @@ impl ModuleWalk {
         ensures { Started modules entry.0 list.new result }
     {
         let n = modules as usize;
-        for i in 0..n {
-            list[i] = modules - 1 - i as u8;
+        for (i, m) in (0..modules).rev().enumerate() {
+            list[i] = m;
         }
         list[n] = entry.0;
         Self {
@@ -131,10 +130,10 @@ impl<'a> Modules<'a> {
         ensures { Appended circle.old circle.new
             (open_imports self.now.imports.now done circle.old.have (gathered_on circle.old)) }
     {
-        let n = circle.count;
         let set = circle.have;
-        for i in 0..n {
-            self.append_open(ModuleId(circle.array[i]), done, set, circle);
+        let array = circle.array;
+        for &member in &array[..circle.count] {
+            self.append_open(ModuleId(member), done, set, circle);
         }
     }
 
@@ -233,6 +232,7 @@ impl<'a> Visits<Arrays> for Modules<'a> {
     ghost use Rattle.chunk.specs.RunLaws.{walking-within};
 
     type State = ModuleWalk;
+
     type Crowded = Infallible;
 
     ghost Input = { Project };

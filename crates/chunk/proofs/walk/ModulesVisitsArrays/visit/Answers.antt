@@ -1,5 +1,5 @@
 -- `Modules::visit` meets its contract. A module that is done, or one that is not. Assumes nothing.
-use Rattle.std.proofs.Common.{arith, sym, ◌∙◌}
+use Rattle.std.proofs.Common.{sym, ◌∙◌}
 use Rattle.chunk.specs.RunLaws.{entries-left, walking_on}
 use Rattle.chunk.proofs.CameLaws.{front_below, behind, at_front, from_front, is-passed, is-undone}
 use Rattle.chunk.proofs.walk.ModulesVisitsArrays.visit.Goals as goal
