@@ -1,7 +1,7 @@
 -- Laws for the proofs of the groups call. Assumes nothing.
-use Rattle.std.specs.Prelude.{ℕ, ◌+◌, ◌*◌, ◌^◌, ◌≤◌, ◌<◌, ◌≡◌, refl, false, take, Result, Ok, Err}
+use Rattle.std.specs.Prelude.{ℕ, ◌+◌, ◌*◌, ◌≤◌, ◌<◌, ◌≡◌, refl, false, take, Result, Ok, Err}
 use Rattle.std.specs.declared.convert.Infallible.{Infallible}
-use Rattle.std.proofs.Common.{suc-le-suc, arith, mul-le-mul, ◌∙◌, lit≤, lt-ltb, le-ltb}
+use Rattle.std.proofs.Common.{arith, mul-le-mul, ◌∙◌, lt-ltb, le-ltb}
 use Rattle.std.proofs.Math.Nat.{le_trans}
 use Rattle.std.proofs.Math.Path.{sym, ap, subst}
 use mathlib.Core.List.{List}
@@ -49,15 +49,6 @@ groups-halted (halted_full e) = rw e
 
 -- The answers to a grouping.
 module _ {stop : Stop ModuleState} {out reply : List ℕ} where
-  pub groups-count : {w : ModuleWalk} {n : ℕ} → Answerable stop out reply (Ok (w, n)) → w.groups ≤ module_limit
-  groups-count a = let f = finished-of a.ran in omega (arith, a.count f.0 _ f.1, f.2.count)
-
-  pub groups-within : {w : ModuleWalk} {n : ℕ} → Answerable stop out reply (Ok (w, n)) → w.used ≤ length out
-  groups-within a = let f = finished-of a.ran in omega (arith, a.within f.0 _ f.1, f.2.used)
-
-  pub groups-room : {w : ModuleWalk} {n : ℕ} → Answerable stop out reply (Ok (w, n)) → w.used ≤ length reply
-  groups-room a = let f = finished-of a.ran in omega (arith, a.fits f.0 _ f.1, f.2.used)
-
   pub answers-finished : {w : ModuleWalk} {n : ℕ} {after : List ℕ} → Answerable stop out reply (Ok (w, n)) → after ≡ overwrite (take w.used out) reply
       → Answered (groups_answer stop) reply after
       (record { answer = 0; kept = 0; groups = w.groups; module_visits = n; item_visits = 0 })
@@ -119,15 +110,6 @@ module _ (bytes : List ℕ) {l : Layout} (a : Accepts bytes l) where
       }
 
   -- Number 10, and an answer behind it.
-  pub modules-small : l.modules ≤ module_limit
-  modules-small = omega (arith, a.modules, project-accepted.modules-most)
-
-  pub product-fits : l.modules * (l.modules + 1) < 2 ^ 64
-  product-fits =
-      let m = modules-small in
-      let n : l.modules + 1 ≤ module_limit + 1 = omega arith in
-      le_trans (suc-le-suc (mul-le-mul m n)) (lit≤ tt)
-
   pub answers-short : (allowance : ℕ) (reply : List ℕ) → length reply < l.modules * (l.modules + 1)
       → Answered (groups_of_project p (length reply) allowance) reply reply (numbers_of (refusal 10 0 0))
   unfolding groups_bytes

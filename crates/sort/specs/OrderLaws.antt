@@ -33,7 +33,7 @@ use Rattle.order.specs.declared.Ending.TheVariants.{Finished, Spent, Full}
 use Rattle.order.specs.Orders.{Orderable, Ordered, has-finished, was-spent, was-full}
 use Rattle.sort.specs.declared.Numbers.{Numbers}
 use Rattle.sort.specs.Answers.{number_of, refusal_of, Halted, halted_spent, halted_full, numbers_of, Answered}
-use Rattle.sort.specs.GroupLaws.{refuses, bytes_fit, finished-of, halted-of}
+use Rattle.sort.specs.GroupLaws.{refuses, finished-of, halted-of}
 use Rattle.sort.specs.Orders.{Ready, Walked, Found, Givable}
 
 -- What a sort's ending says.
@@ -70,12 +70,6 @@ module _ {p : Project} {stop : Stop (List ℕ)} {rows reply : List ℕ} {count :
   rows-within g =
       let r = rows_of g.ordered in
       rw r.2 (simp length-sets (omega (arith, g.kept r.0 _ r.1, g.kept-most, g.size)))
-
-  pub rows-room : {end n : ℕ} → Givable p stop rows count reply (Finished end n) → end ≤ length reply
-  rows-room g = let r = rows_of g.ordered in omega (arith, g.kept r.0 _ r.1, g.room)
-
-  pub rows-most : {end n : ℕ} → Givable p stop rows count reply (Finished end n) → end ≤ item_limit
-  rows-most g = let r = rows_of g.ordered in omega (arith, g.kept r.0 _ r.1, g.kept-most)
 
   pub gives-order : (visits : ℕ) {end n : ℕ} {after : List ℕ} → Givable p stop rows count reply (Finished end n) → after ≡ overwrite (take end rows) reply
       → Answered (order_answer p count visits stop) reply after
@@ -204,12 +198,6 @@ module _ {bytes : List ℕ} {l : Layout} {groups reply : List ℕ} {allowance : 
   found k =
       let e = finished-of k.ran in
       record { ready = k.ready; grouped = e.1; bytes-are = e.2.bytes; count-is = e.2.count }
-
-  pub found_within : {w : ModuleWalk} {n : ℕ} → Walked bytes l groups reply allowance (Ok (w, n)) → w.used ≤ length groups
-  found_within k =
-      let e = finished-of k.ran in
-      let a = read-accepted bytes (project_of bytes) k.ready.accepts.reads in
-      omega (arith, bytes_fit a allowance e.0 _ e.1, e.2.used, k.size)
 
   pub sorts-finished : {w : ModuleWalk} {n : ℕ} {after : List ℕ} {r : Numbers} (k : Walked bytes l groups reply allowance (Ok (w, n)))
       → ((s : ModuleState) → Found bytes l (take w.used groups) w.groups n reply allowance s

@@ -125,12 +125,9 @@ fn find_groups(
     requires { Accepts project.now l }
     ensures { Ran (run_modules (project_of project.now) module_list_limit allowance) (Holds arrays.new.groups) (λ _. ⊥) result }
 {
-    let items_end = l.items_end;
-    let imports_end = l.imports_end;
-    let circles_end = l.circles_end;
     walk::toposort_real_module_ids(
-        &project[items_end..imports_end],
-        &project[imports_end..circles_end],
+        &project[l.items_end..l.imports_end],
+        &project[l.imports_end..l.circles_end],
         l.modules,
         l.entry,
         arrays,
@@ -195,8 +192,7 @@ fn order_of(project: &[u8], l: Layout, reply: &mut [u8], allowance: u32) -> Numb
     requires le_allowance { 1 ≤ allowance }
     ensures { Answered (order_of_project (project_of project.now) (length reply.old) allowance) reply.old reply.new result }
 {
-    let items_end = l.items_end;
-    if reply.len() < (items_end - Layout::START) / ItemRow::BYTES {
+    if reply.len() < (l.items_end - Layout::START) / ItemRow::BYTES {
         return Numbers::refusal(Refusal::ShortReply.into(), 0, 0);
     }
     let mut arrays = Arrays::new();
@@ -252,14 +248,11 @@ fn sort_items(
         (order_groups (project_of project.now) item_list_limit (allowance - module_visits) [] (groups_in_order s) [] 0))
         reply.old reply.new result }
 {
-    let items_end = l.items_end;
-    let imports_end = l.imports_end;
-    let circles_end = l.circles_end;
     let mut rows = [0u8; Layout::ITEM_ROOM];
     let sorted = sort_groups(
-        &project[Layout::START..items_end],
-        &project[items_end..imports_end],
-        &project[circles_end..],
+        &project[Layout::START..l.items_end],
+        &project[l.items_end..l.imports_end],
+        &project[l.circles_end..],
         groups,
         count,
         &mut rows,
