@@ -258,7 +258,7 @@ impl<'a> Visits<Arrays> for Modules<'a> {
         w.end == 0
     }
 
-    // The array has the limit's size.
+    // There always is room: the list's array is as long as the limit.
     fn has_room(&self, _arrays: &Arrays, _w: ModuleWalk) -> Result<(), Infallible> {
         Ok(())
     }

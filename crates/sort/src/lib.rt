@@ -163,6 +163,7 @@ fn give_groups(
         Ok((w, made)) => {
             copy_front(&out[..w.used], reply);
             Numbers {
+                answer: 0,
                 groups: w.groups as u32,
                 module_visits: made,
                 ..Numbers::default()
