@@ -2,7 +2,7 @@ use native.Mathlib.Omega.{arith}
 use mathlib.Core.Path.{subst}
 use lib.ListN.{length-take}
 use Rattle.sort.specs.Orders.{Givable}
-use Rattle.sort.specs.OrderLaws.{rows-within, gives-order, gives-spent, gives-full}
+use Rattle.sort.specs.OrderLaws.{rows-within, gives-order, sort-spent, sort-full, gives-stopped}
 use Rattle.sort.proofs.give_order.Goals as goal
 
 pub slice_bounds-copy_front-end : goal.slice_bounds-copy_front-end
@@ -16,8 +16,10 @@ returns-in-Finished c p stop h =
 
 pub returns-in-Spent : goal.returns-in-Spent
 returns-in-Spent c p stop h =
-    rw c.refusal.ensures (gives-spent _ (subst (Givable p stop _ _ _) c.in-Spent.is h))
+    rw (c.refusal.ensures, c.into.ensures)
+    (gives-stopped p c.args.groups c.args.module_visits c.args.reply.now (sort-spent (subst (Givable p stop _ _ _) c.in-Spent.is h).ordered))
 
 pub returns-in-Full : goal.returns-in-Full
 returns-in-Full c p stop h =
-    rw c.refusal-in-Full.ensures (gives-full _ (subst (Givable p stop _ _ _) c.in-Full.is h))
+    rw (c.refusal-in-Full.ensures, c.into-in-Full.ensures)
+    (gives-stopped p c.args.groups c.args.module_visits c.args.reply.now (sort-full (subst (Givable p stop _ _ _) c.in-Full.is h).ordered))
