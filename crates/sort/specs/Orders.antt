@@ -13,7 +13,6 @@ use Rattle.walks.specs.Runs.{Ran}
 use Rattle.chunk.specs.Walks.{Holds}
 use Rattle.chunk.specs.declared.walk.ModuleWalk.{ModuleWalk}
 use Rattle.order.specs.Orders.{Ordered}
-use Rattle.order.specs.declared.Ending.{Ending as OrderEnding}
 
 -- An accepted project and a reply that is long enough, with an allowance that is not 0.
 pub record Ready (bytes : List ℕ) (l : Layout) (reply : List ℕ) (allowance : ℕ) : Type 0 where
@@ -35,7 +34,8 @@ pub record Found (bytes : List ℕ) (l : Layout) (groups : List ℕ) (count visi
   pub count-is : count ≡ length (groups_of s)
 
 -- A sort of all groups that can be answered: where it has finished, it has placed all kept rows, and they fit the reply.
-pub record Givable (p : Project) (stop : Stop (List ℕ)) (rows : List ℕ) (count : ℕ) (reply : List ℕ) (sorted : OrderEnding) : Type 0 where
+pub record Givable (p : Project) (stop : Stop (List ℕ)) (rows : List ℕ) (count : ℕ) (reply : List ℕ) (sorted : Result (ℕ × ℕ) (WalkStop Infallible)) : Type 0
+    where
   pub before : List ℕ
   pub size : length before ≡ item_limit
   pub ordered : Ordered stop before rows sorted

@@ -264,7 +264,7 @@ fn sort_items(
 
 // The answer to a sort of all groups: where it has finished, its rows are copied to the reply.
 fn give_order(
-    sorted: order::Ending,
+    sorted: Result<(usize, u32), Stop<Infallible>>,
     rows: &[u8],
     groups: usize,
     module_visits: u32,
@@ -275,7 +275,7 @@ fn give_order(
         → Answered (order_answer p groups module_visits stop) reply.old reply.new result }
 {
     match sorted {
-        order::Ending::Finished(end, made) => {
+        Ok((end, made)) => {
             copy_front(&rows[..end], reply);
             Numbers {
                 answer: 0,
@@ -285,7 +285,9 @@ fn give_order(
                 item_visits: made,
             }
         }
-        order::Ending::Spent(made) => Numbers::refusal(Refusal::Spent.into(), module_visits, made),
-        order::Ending::Full(made) => Numbers::refusal(Refusal::Full.into(), module_visits, made),
+        Err(stop) => {
+            let (why, made) = stopped(stop);
+            Numbers::refusal(why.into(), module_visits, made)
+        }
     }
 }
