@@ -68,12 +68,6 @@ gives-shown p m =
 -- All is ready where the sets are those of the sections.
 module _ {p : Project} {groups : List (List ℕ)} {items imports needs bytes : List ℕ} {count : ℕ} {out : List ℕ}
     (o : Orderable p groups items imports needs bytes count out) where
-  pub importers-below : (i : Import) → i ∈ pair_rows import_row imports → i.importer < module_limit
-  importers-below i m = omega (arith, (o.accepted.import-rows i (subst (λ (l : List Import). i ∈ l) (sym o.imports-are) m)).importer-below, o.accepted.modules-most)
-
-  pub items-below : (i : Item) → i ∈ pair_rows item_row items → i.in_module < module_limit
-  items-below i m = omega (arith, (o.accepted.item-rows i (subst (λ (l : List Item). i ∈ l) (sym o.items-are) m)).module-below, o.accepted.modules-most)
-
   pub ready : {turns : Turns} → RowsShown p turns.items → ((m : ℕ) → bit turns.importers m ≡ any (is_importer m) (pair_rows import_row imports))
       → ((m : ℕ) → bit turns.givers m ≡ any (is_giver m) (pair_rows item_row items)) → Ready p groups turns
   ready rows i g =
