@@ -9,7 +9,7 @@ use Rattle.order.specs.Turns.{Turning}
 use Rattle.order.specs.Stops.{Turned}
 use Rattle.order.specs.Orders.{Ordered}
 
-module _ (entries : ℕ) (p : Project) (groups : List (List ℕ)) (allowance : ℕ) (before after : List ℕ) where
+module _ {entries : ℕ} {p : Project} {groups : List (List ℕ)} {allowance : ℕ} {before after : List ℕ} where
   pub turns-finished : {end made : ℕ} → Turned entries p groups allowance before after (Ok (end, made)) → Ordered (order_groups p item_list_limit allowance [] groups [] 0) before after (Ok (end, made))
   turns-finished (has_finished rows e h) = has_finished rows e h
 
