@@ -1,8 +1,8 @@
 -- Laws of the sets that the turns rely on. Assumes nothing.
-use Rattle.std.specs.Prelude.{ℕ, suc, ◌*◌, ◌≤◌, ◌<◌, ◌≡◌, refl, Bool, not, ◌&&◌, ◌||◌, List, [], ◌∷◌, eqb, length}
+use Rattle.std.specs.Prelude.{ℕ, suc, ◌*◌, ◌≤◌, ◌≡◌, refl, Bool, not, ◌&&◌, ◌||◌, List, [], ◌∷◌, eqb, length}
 use Rattle.std.proofs.Common.{arith, mul-le-mul, sym, ap, subst, ◌∙◌, eqb-true, eq-eqb}
 use Rattle.rules.specs.Lists.{is_empty, cons_if, any, positions_from}
-use Rattle.rules.specs.Project.{Item, Import, Project, module_limit, need_limit, item_row, import_row, pair_rows}
+use Rattle.rules.specs.Project.{Item, Project, need_limit, item_row, import_row, pair_rows}
 use Rattle.rules.specs.Modules.{imports_of}
 use Rattle.rules.specs.Items.{is_kept, kept_rows_of}
 use Rattle.laws.specs.Lists.{◌∈◌, false≢true, Tested, holds, fails, tested, any-true, true-any, eqb-sym}

@@ -1,5 +1,5 @@
-use Rattle.std.proofs.Common.{ℕ, List, rules, refl, sym, ap, ◌∙◌, ◌≡◌, ◌∷◌, length}
-use Rattle.rules.specs.Project.{Project, circle_lists, item_limit}
+use Rattle.std.proofs.Common.{ℕ, List, rules, refl, sym, ap, ◌∙◌, ◌∷◌}
+use Rattle.rules.specs.Project.{Project, circle_lists}
 use Rattle.owners.specs.GroupBytes.{groups_whole, groups_lists}
 use Rattle.order.specs.Turns.{TurningAt}
 use Rattle.order.specs.Stops.{Sorting, SortTurn}
