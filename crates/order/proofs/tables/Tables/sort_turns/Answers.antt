@@ -32,7 +32,7 @@ sortable : (g : Over) (c : In-Some g) {p : Project} {groups : List (List ℕ)} {
     → Sorting g.row.WORDS g.row.NEEDS p groups c.args.turns.now c.args.self.now.needs c.args.allowance before c.args.out.now c.args.first
     → (s : TurningAt p groups c.args.allowance before c.loop-members.out c.loop-members.t (c.in-Some.members.now ∷ rest))
     → SortTurn g.row.WORDS g.row.NEEDS p s.earlier c.in-Some.members.now c.args.turns.now c.loop-members.self.needs c.args.allowance c.loop-members.t
-        c.loop-members.out
+    c.loop-members.out
 sortable g c h s = rw c.loop-members.invariant.0 (sort-turn h.ready s h.chained h.sized (c.loop-members.invariant.1 ∙ h.size))
 
 pub keeps_row_order-requires : goal.keeps_row_order-requires
