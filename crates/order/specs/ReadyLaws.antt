@@ -1,8 +1,8 @@
 -- Laws of the sets that the turns rely on. Assumes nothing.
-use Rattle.std.specs.Prelude.{ℕ, suc, ◌*◌, ◌≤◌, ◌<◌, ◌≡◌, refl, Bool, not, ◌&&◌, ◌||◌, List, [], ◌∷◌, eqb, length}
+use Rattle.std.specs.Prelude.{ℕ, suc, ◌*◌, ◌≤◌, ◌≡◌, refl, Bool, not, ◌&&◌, ◌||◌, List, [], ◌∷◌, eqb, length}
 use Rattle.std.proofs.Common.{arith, mul-le-mul, sym, ap, subst, ◌∙◌, eqb-true, eq-eqb}
 use Rattle.rules.specs.Lists.{is_empty, cons_if, any, positions_from}
-use Rattle.rules.specs.Project.{Item, Import, Project, module_limit, need_limit, item_row, import_row, pair_rows}
+use Rattle.rules.specs.Project.{Item, Project, need_limit, item_row, import_row, pair_rows}
 use Rattle.rules.specs.Modules.{imports_of}
 use Rattle.rules.specs.Items.{is_kept, kept_rows_of}
 use Rattle.laws.specs.Lists.{◌∈◌, false≢true, Tested, holds, fails, tested, any-true, true-any, eqb-sym}
@@ -68,12 +68,6 @@ gives-shown p m =
 -- All is ready where the sets are those of the sections.
 module _ {p : Project} {groups : List (List ℕ)} {items imports needs bytes : List ℕ} {count : ℕ} {out : List ℕ}
     (o : Orderable p groups items imports needs bytes count out) where
-  pub importers-below : (i : Import) → i ∈ pair_rows import_row imports → i.importer < module_limit
-  importers-below i m = omega (arith, (o.accepted.import-rows i (subst (λ (l : List Import). i ∈ l) (sym o.imports-are) m)).importer-below, o.accepted.modules-most)
-
-  pub items-below : (i : Item) → i ∈ pair_rows item_row items → i.in_module < module_limit
-  items-below i m = omega (arith, (o.accepted.item-rows i (subst (λ (l : List Item). i ∈ l) (sym o.items-are) m)).module-below, o.accepted.modules-most)
-
   pub ready : {turns : Turns} → RowsShown p turns.items → ((m : ℕ) → bit turns.importers m ≡ any (is_importer m) (pair_rows import_row imports))
       → ((m : ℕ) → bit turns.givers m ≡ any (is_giver m) (pair_rows item_row items)) → Ready p groups turns
   ready rows i g =

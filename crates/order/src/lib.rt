@@ -10,13 +10,13 @@ ghost use Rattle.rules.specs.Calls.{item_list_limit, order_groups};
 ghost use Rattle.order.specs.Stops.{Going};
 ghost use Rattle.order.specs.Orders.{Orderable, Ordered};
 
-use std::convert::Infallible;
 use giving;
 use graph::rows::ROW_WORDS;
 use owners::Owners;
 use project::Layout;
 use project::sections::{ItemRow, NeedRow, Row};
 use split::rows::ItemRows;
+use std::convert::Infallible;
 use stmt::walk::ItemWalk;
 use tables::take_turns;
 use turns::{Turn, Turns};
@@ -102,9 +102,7 @@ fn sort_rest(
         Ok(sorted) => Ok(sorted),
         Err(Stop::Spent(made)) => Err(Stop::Spent(made)),
         Err(Stop::Full(made)) => Err(Stop::Full(made)),
-        Err(Stop::Crowded(reached)) => {
-            sort_large(turns, needs, owners, reached, out, allowance)
-        }
+        Err(Stop::Crowded(reached)) => sort_large(turns, needs, owners, reached, out, allowance),
     }
 }
 

@@ -31,8 +31,12 @@ pub struct Tables<'a, const WORDS: usize, const NEEDS: usize, const ENTRIES: usi
     pub sort: Sort<WORDS, NEEDS, ENTRIES>,
 }
 
-impl<'a, const WORDS: usize, const NEEDS: usize, const ENTRIES: usize>
-    Tables<'a, WORDS, NEEDS, ENTRIES> {
+impl<'a, const WORDS: usize, const NEEDS: usize, const ENTRIES: usize> Tables<
+    'a,
+    WORDS,
+    NEEDS,
+    ENTRIES,
+> {
     // Sorts a group in its turn and writes its rows behind those written: the place behind them, and the visits made.
     fn sort_group(
         &mut self,

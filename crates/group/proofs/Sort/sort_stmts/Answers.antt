@@ -25,9 +25,14 @@ walk_items-requires g c =
     let asked = c.asked-asked.ensures in
     let laid = c.lay_needs.ensures in (
       search rules,
-      (c.requires.already_le_allowance,
-      (asked_group p modules (asked-own known numbered asked.next asked.entry).own, group_of p modules,
-      walks-on known numbered asked.next asked.entry laid.split laid.nodes laid.laid)),
+      (
+        c.requires.already_le_allowance,
+        (
+          asked_group p modules (asked-own known numbered asked.next asked.entry).own,
+          group_of p modules,
+          walks-on known numbered asked.next asked.entry laid.split laid.nodes laid.laid,
+        ),
+      ),
     )
 
 pub returns-in_err-made : goal.returns-in_err-made

@@ -1,7 +1,10 @@
-use Rattle.std.proofs.Common.{rules, refl, sym, ap, ◌∙◌}
-use Rattle.rules.specs.Project.{circle_lists}
+use Rattle.std.proofs.Common.{ℕ, List, rules, refl, sym, ap, ◌∙◌, ◌∷◌}
+use Rattle.rules.specs.Project.{Project, circle_lists}
 use Rattle.owners.specs.GroupBytes.{groups_whole, groups_lists}
+use Rattle.order.specs.Turns.{TurningAt}
+use Rattle.order.specs.Stops.{Sorting, SortTurn}
 use Rattle.order.specs.LoopLaws.{turn-formed, turn-taking, turn-some, turn-within, turn-kept, sort-turn, turn-sorted, turn-stopped, turn_end}
+use Rattle.order.proofs.tables.Tables.sort_turns.Given.{Over}
 use Rattle.order.proofs.tables.Tables.sort_turns.Goals as goal
 use Rattle.order.proofs.tables.Tables.sort_turns.Goals.{In-Some}
 
@@ -18,15 +21,27 @@ loop-members-init g c = (
       rw all s.place,
 )
 
+-- the turn of the group is next,
+next : (g : Over) (c : In-Some g) {p : Project} {groups : List (List ℕ)} {before : List ℕ}
+    → Sorting g.row.WORDS g.row.NEEDS p groups c.args.turns.now c.args.self.now.needs c.args.allowance before c.args.out.now c.args.first
+    → TurningAt p groups c.args.allowance before c.loop-members.out c.loop-members.t (c.in-Some.members.now ∷ c.next.new.self)
+next g c {p} {groups} {before} h = rw c.in-Some.ensures.steps at (c.loop-members.invariant.2 p groups before h)
+
+-- and the group can be sorted in it
+sortable : (g : Over) (c : In-Some g) {p : Project} {groups : List (List ℕ)} {before : List ℕ} {rest : List (List ℕ)}
+    → Sorting g.row.WORDS g.row.NEEDS p groups c.args.turns.now c.args.self.now.needs c.args.allowance before c.args.out.now c.args.first
+    → (s : TurningAt p groups c.args.allowance before c.loop-members.out c.loop-members.t (c.in-Some.members.now ∷ rest))
+    → SortTurn g.row.WORDS g.row.NEEDS p s.earlier c.in-Some.members.now c.args.turns.now c.loop-members.self.needs c.args.allowance c.loop-members.t
+    c.loop-members.out
+sortable g c h s = rw c.loop-members.invariant.0 (sort-turn h.ready s h.chained h.sized (c.loop-members.invariant.1 ∙ h.size))
+
 pub keeps_row_order-requires : goal.keeps_row_order-requires
-keeps_row_order-requires g c =
-    let known = c.requires in
-    turn-formed known.3.ready (rw c.in-Some.ensures.steps at (c.loop-members.invariant.2 known.0 known.1 known.2 known.3))
+keeps_row_order-requires g c = let known = c.requires.3 in turn-formed known.ready (next g (goal.at.keeps_row_order-requires g c).In-Some known)
 
 pub keep_group-t-requires : goal.keep_group-t-requires
 keep_group-t-requires g c =
     let known = c.requires in
-    let s = rw c.in-Some.ensures.steps at (c.loop-members.invariant.2 known.0 known.1 known.2 known.3) in
+    let s = next g (goal.at.keep_group-t-requires g c).In-Some known.3 in
     (known.0, s.earlier, turn-taking known.3.ready s (c.loop-members.invariant.1 ∙ known.3.size))
 
 pub loop-members-preserved-then-keeps_row_order : goal.loop-members-preserved-then-keeps_row_order
@@ -34,7 +49,7 @@ loop-members-preserved-then-keeps_row_order g c = (
   c.loop-members.invariant.0,
   c.keep_group-t.auto.out ∙ c.loop-members.invariant.1,
   λ p groups before h.
-      let s = rw c.in-Some.ensures.steps at (c.loop-members.invariant.2 p groups before h) in
+      let s = next g (goal.at.loop-members-preserved-then-keeps_row_order g c).In-Some h in
       let size = c.loop-members.invariant.1 ∙ h.size in
       turn-kept h.ready s (sym (c.if-keeps_row_order.ensures p h.ready.imports-shown)) (c.keep_group-t.ensures p s.earlier (turn-taking h.ready s size)),
 )
@@ -42,39 +57,40 @@ loop-members-preserved-then-keeps_row_order g c = (
 pub sort_group-requires : goal.sort_group-requires
 sort_group-requires g c =
     let known = c.requires in
-    let s = rw c.in-Some.ensures.steps at (c.loop-members.invariant.2 known.0 known.1 known.2 known.3) in
-    (search rules, (known.0, s.earlier, rw c.loop-members.invariant.0 (sort-turn known.3.ready s known.3.chained known.3.sized (c.loop-members.invariant.1 ∙ known.3.size))))
+    let one = (goal.at.sort_group-requires g c).In-Some in
+    let s = next g one known.3 in
+    (search rules, (known.0, s.earlier, sortable g one known.3 s))
 
 pub after-t-requires-clause-members : goal.after-t-requires-clause-members
 after-t-requires-clause-members g c =
-    let known = c.requires in
-    turn-formed known.3.ready (rw c.in-Some.ensures.steps at (c.loop-members.invariant.2 known.0 known.1 known.2 known.3))
+    let known = c.requires.3 in
+    turn-formed known.ready (next g (goal.at.after-t-requires-clause-members g c).In-Some known)
 
 pub after-t-requires-clause-left_nonzero : goal.after-t-requires-clause-left_nonzero
 after-t-requires-clause-left_nonzero g c =
-    let known = c.requires in
-    let s = rw c.in-Some.ensures.steps at (c.loop-members.invariant.2 known.0 known.1 known.2 known.3) in
-    (turn-some known.3.ready s, turn-within known.3.ready s)
+    let known = c.requires.3 in
+    let s = next g (goal.at.after-t-requires-clause-left_nonzero g c).In-Some known in
+    (turn-some known.ready s, turn-within known.ready s)
 
 pub loop-members-preserved : goal.loop-members-preserved
 loop-members-preserved g c = (
   c.sort_group.ensures.needs ∙ c.loop-members.invariant.0,
   c.sort_group.auto.out ∙ c.loop-members.invariant.1,
   λ p groups before h.
-      let s = rw c.in-Some.ensures.steps at (c.loop-members.invariant.2 p groups before h) in
-      let size = c.loop-members.invariant.1 ∙ h.size in
-      turn-sorted h.ready s (sym (c.if-keeps_row_order.ensures p h.ready.imports-shown))
-      (c.in-Ok.ensures.sorts p s.earlier (rw c.loop-members.invariant.0 (sort-turn h.ready s h.chained h.sized size))) c.after-t.ensures,
+      let one = (goal.at.loop-members-preserved g c).In-Some in
+      let s = next g one h in
+      turn-sorted h.ready s (sym (c.if-keeps_row_order.ensures p h.ready.imports-shown)) (c.in-Ok.ensures.sorts p s.earlier (sortable g one h s))
+      c.after-t.ensures,
 )
 
 pub returns-in-Err : goal.returns-in-Err
 returns-in-Err g c =
     λ p groups before h.
-    let s = rw c.in-Some.ensures.steps at (c.loop-members.invariant.2 p groups before h) in
-    let size = c.loop-members.invariant.1 ∙ h.size in
+    let one = (goal.at.returns-in-Err g c).In-Some in
+    let s = next g one h in
     rw c.stopped.ensures
     (turn-stopped h.ready s (sym (c.if-keeps_row_order.ensures p h.ready.imports-shown)) (c.in-Err.ensures.kept c.in-Err.stop refl)
-    (c.in-Err.ensures.sorts p s.earlier (rw c.loop-members.invariant.0 (sort-turn h.ready s h.chained h.sized size))))
+    (c.in-Err.ensures.sorts p s.earlier (sortable g one h s)))
 
 pub returns : goal.returns
 returns g c = λ p groups before h. turn_end (rw c.in-None.ensures.steps.0 at (c.loop-members.invariant.2 p groups before h))
