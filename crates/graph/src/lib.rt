@@ -147,11 +147,10 @@ impl<const WORDS: usize, const NEEDS: usize> Graph<WORDS, NEEDS> {
         ensures words { self.new.words ≡ words_for nodes }
     {
         let words = (nodes + 63) / 64;
-        let size = nodes * words;
         self.nodes = nodes;
         self.words = words;
-        rows::clear_words(&mut self.weak, size);
-        rows::clear_words(&mut self.paths, size);
+        rows::clear_words(&mut self.weak, nodes * words);
+        rows::clear_words(&mut self.paths, nodes * words);
         self.outgoing.clear(nodes);
         self.incoming.clear(nodes);
     }

@@ -12,6 +12,6 @@ pub returns : goal.returns
 returns g c =
     not_found c.requires.0 c.args.item.0 (λ within same.
     elim c.else-at-self.branch [
-      else-at-self-via-then-at-self+else-self-at w ↦ w.if-self-at.false (rw c.from.ensures same)
-    | else-at-self-via-else-at-self w ↦ omega (arith, w.if-at-self.false, rw (← c.from.ensures) at within)
+      | else-at-self-via-then-at-self+else-self-at w ↦ w.if-self-at.false (rw c.from.ensures same)
+      | else-at-self-via-else-at-self w ↦ omega (arith, w.if-at-self.false, rw (← c.from.ensures) at within)
     ])
