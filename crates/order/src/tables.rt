@@ -24,77 +24,62 @@ fn stopped<'a>(stop: Stop<Crowded>, t: Turn<'a>) -> Stop<Turn<'a>>
     }
 }
 
-// The needs of a project by the groups that own them, and what a group is sorted on.
-#[derive(Drop)]
-pub struct Tables<'a, const WORDS: usize, const NEEDS: usize, const ENTRIES: usize> {
-    pub needs: NeedRows<'a, NEEDS>,
-    pub sort: Sort<WORDS, NEEDS, ENTRIES>,
+// Sorts a group in its turn and writes its rows behind those written: the place behind them, and the visits made.
+fn sort_group<const WORDS: usize, const NEEDS: usize, const ENTRIES: usize>(
+    sort: &mut Sort<WORDS, NEEDS, ENTRIES>,
+    needs: &NeedRows<'_, NEEDS>,
+    turns: &Turns,
+    members: &[u8],
+    t: Turn<'_>,
+    out: &mut [u8],
+    allowance: u32,
+) -> Result<(usize, u32), Stop<Crowded>>
+    requires { (p : Project) × (earlier : List (List ℕ)) × SortTurn WORDS NEEDS p earlier members.now turns.now needs.now allowance t out.old }
+    ensures sorts { (p : Project) (earlier : List (List ℕ))
+        → SortTurn WORDS NEEDS p earlier members.now turns.now needs.now allowance t.entry out.old
+        → Sorts ENTRIES p earlier members.now allowance t.entry out.old out.new result }
+    ensures kept { (stop : Stopped ListCrowded) → result ≡ Err stop → out.new ≡ out.old }
+{
+    let given = GivingModules::new(members, t.used, turns.givers);
+    let (_, made) = sort.sort_stmts(
+        &turns.items,
+        needs.section,
+        needs.of_group(t.left),
+        given.modules(),
+        allowance,
+        t.made,
+    )?;
+    let kept = sort.write_rows(out, t.kept);
+    Ok((kept, made))
 }
 
-impl<'a, const WORDS: usize, const NEEDS: usize, const ENTRIES: usize> Tables<
-    'a,
-    WORDS,
-    NEEDS,
-    ENTRIES,
-> {
-    // Sorts a group in its turn and writes its rows behind those written: the place behind them, and the visits made.
-    fn sort_group(
-        &mut self,
-        turns: &Turns,
-        members: &[u8],
-        t: Turn<'_>,
-        out: &mut [u8],
-        allowance: u32,
-    ) -> Result<(usize, u32), Stop<Crowded>>
-        requires { (p : Project) × (earlier : List (List ℕ)) × SortTurn WORDS NEEDS p earlier members.now turns.now self.old.needs allowance t out.old }
-        ensures sorts { (p : Project) (earlier : List (List ℕ))
-            → SortTurn WORDS NEEDS p earlier members.now turns.now self.old.needs allowance t.entry out.old
-            → Sorts ENTRIES p earlier members.now allowance t.entry out.old out.new result }
-        ensures kept { (stop : Stopped ListCrowded) → result ≡ Err stop → out.new ≡ out.old }
-        ensures needs { self.new.needs ≡ self.old.needs }
-    {
-        let given = GivingModules::new(members, t.used, turns.givers);
-        let section = self.needs.section;
-        let own = self.needs.of_group(t.left);
-        let (_, made) = self.sort.sort_stmts(
-            &turns.items,
-            section,
-            own,
-            given.modules(),
-            allowance,
-            t.made,
-        )?;
-        let kept = self.sort.write_rows(out, t.kept);
-        Ok((kept, made))
-    }
-
-    // The turns of the groups from one on.
-    fn sort_turns<'b>(
-        &mut self,
-        turns: &Turns,
-        first: Turn<'b>,
-        out: &mut [u8],
-        allowance: u32,
-    ) -> Result<(usize, u32), Stop<Turn<'b>>>
-        requires { (p : Project) × (groups : List (List ℕ)) × (before : List ℕ)
-            × Sorting WORDS NEEDS p groups turns.now self.old.needs allowance before out.old first }
-        ensures { (p : Project) (groups : List (List ℕ)) (before : List ℕ)
-            → Sorting WORDS NEEDS p groups turns.now self.old.needs allowance before out.old first.entry
-            → Turned ENTRIES p groups allowance before out.new result }
-    {
-        let mut t = first;
-        for members in Lists::new(first.rest) {
-            if keeps_row_order(members, turns.importers) {
-                t = turns.keep_group(members, t, out);
-                continue;
-            }
-            match self.sort_group(turns, members, t, out, allowance) {
-                Ok((kept, made)) => t = t.after(members, kept, made),
-                Err(stop) => return Err(stopped(stop, t)),
-            }
+// The turns of the groups from one on.
+fn sort_turns<'a, const WORDS: usize, const NEEDS: usize, const ENTRIES: usize>(
+    sort: &mut Sort<WORDS, NEEDS, ENTRIES>,
+    needs: &NeedRows<'_, NEEDS>,
+    turns: &Turns,
+    first: Turn<'a>,
+    out: &mut [u8],
+    allowance: u32,
+) -> Result<(usize, u32), Stop<Turn<'a>>>
+    requires { (p : Project) × (groups : List (List ℕ)) × (before : List ℕ)
+        × Sorting WORDS NEEDS p groups turns.now needs.now allowance before out.old first }
+    ensures { (p : Project) (groups : List (List ℕ)) (before : List ℕ)
+        → Sorting WORDS NEEDS p groups turns.now needs.now allowance before out.old first.entry
+        → Turned ENTRIES p groups allowance before out.new result }
+{
+    let mut t = first;
+    for members in Lists::new(first.rest) {
+        if keeps_row_order(members, turns.importers) {
+            t = turns.keep_group(members, t, out);
+            continue;
         }
-        Ok((t.kept, t.made))
+        match sort_group(sort, needs, turns, members, t, out, allowance) {
+            Ok((kept, made)) => t = t.after(members, kept, made),
+            Err(stop) => return Err(stopped(stop, t)),
+        }
     }
+    Ok((t.kept, t.made))
 }
 
 // Chains the needs and takes the turns from one on. The arrays stand in a stack frame of their own, so that a project that gets by with small ones makes
@@ -115,9 +100,8 @@ pub fn take_turns<'b, const WORDS: usize, const NEEDS: usize, const ENTRIES: usi
         → Going p groups turns.now needs.now owners.now allowance before out.old first.entry → Sized WORDS NEEDS p
         → Turned ENTRIES p groups allowance before out.new result }
 {
-    let mut tables = Tables::<WORDS, NEEDS, ENTRIES> {
-        needs: NeedRows::new(needs, turns.items.section, owners),
-        sort: Sort::new(),
-    };
-    tables.sort_turns(turns, first, out, allowance)
+    // In one struct with the needs, or made behind them, the arrays would be cleared twice.
+    let mut sort = Sort::<WORDS, NEEDS, ENTRIES>::new();
+    let needs = NeedRows::new(needs, turns.items.section, owners);
+    sort_turns(&mut sort, &needs, turns, first, out, allowance)
 }

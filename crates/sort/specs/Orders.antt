@@ -35,11 +35,11 @@ pub record Found (bytes : List ℕ) (l : Layout) (groups : List ℕ) (count visi
 
 -- A sort of all groups that can be answered: where it has finished, it has placed all kept rows, and they fit the reply.
 pub record Givable (p : Project) (stop : Stop (List ℕ)) (rows : List ℕ) (count : ℕ) (reply : List ℕ) (sorted : Result (ℕ × ℕ) (WalkStop Infallible)) : Type 0
-    where
-  pub before : List ℕ
-  pub size : length before ≡ item_limit
-  pub ordered : Ordered stop before rows sorted
-  pub count_most : count ≤ module_limit
-  pub kept : (placed : List ℕ) (n : ℕ) → stop ≡ finished placed n → length (kept_rows p) ≡ length placed
-  pub kept-most : length (kept_rows p) ≤ item_limit
-  pub room : length (kept_rows p) ≤ length reply
+  where
+    pub before : List ℕ
+    pub size : length before ≡ item_limit
+    pub ordered : Ordered stop before rows sorted
+    pub count_most : count ≤ module_limit
+    pub kept : (placed : List ℕ) (n : ℕ) → stop ≡ finished placed n → length (kept_rows p) ≡ length placed
+    pub kept-most : length (kept_rows p) ≤ item_limit
+    pub room : length (kept_rows p) ≤ length reply

@@ -1,4 +1,4 @@
--- `Tables::sort_group` meets its contract: its parts in turn. Assumes nothing.
+-- `sort_group` meets its contract: its parts in turn. Assumes nothing.
 use Rattle.std.proofs.Common.{ℕ, List, rules, ◌∙◌, ◌≡◌}
 use Rattle.std.proofs.lemmas.Result.{err_from_is_err_and}
 use Rattle.rules.specs.Project.{Project}
@@ -7,21 +7,21 @@ use Rattle.group.specs.Sorts.{Sortable}
 use Rattle.order.specs.Stops.{SortTurn}
 use Rattle.order.specs.TurnLaws.{found-same}
 use Rattle.order.specs.SortTurnLaws.{rows-given, rows-written, sort-stopped}
-use Rattle.order.proofs.tables.Tables.sort_group.Given.{Over}
-use Rattle.order.proofs.tables.Tables.sort_group.Goals as goal
-use Rattle.order.proofs.tables.Tables.sort_group.Goals.{After-modules}
+use Rattle.order.proofs.tables.sort_group.Given.{Over}
+use Rattle.order.proofs.tables.sort_group.Goals as goal
+use Rattle.order.proofs.tables.sort_group.Goals.{After-modules}
 
 -- the modules found are those of the group that give,
 found : (g : Over) (c : After-modules g) {p : Project} {earlier : List (List ℕ)}
-    → SortTurn g.row.WORDS g.row.NEEDS p earlier c.args.members.now c.args.turns.now c.args.self.now.needs c.args.allowance c.args.t c.args.out.now
+    → SortTurn g.row.WORDS g.row.NEEDS p earlier c.args.members.now c.args.turns.now c.args.needs.now c.args.allowance c.args.t c.args.out.now
     → c.modules.result.now ≡ giving_modules p earlier c.args.members.now
 found g c h = found-same h.taking (c.modules.ensures ∙ c.new-given.ensures)
 
 -- and can be sorted
 able : (g : Over) (c : After-modules g) {p : Project} {earlier : List (List ℕ)}
-    → SortTurn g.row.WORDS g.row.NEEDS p earlier c.args.members.now c.args.turns.now c.args.self.now.needs c.args.allowance c.args.t c.args.out.now
-    → Sortable g.row.WORDS g.row.NEEDS p c.modules.result.now c.args.turns.now.items c.args.self.now.needs.section.now c.of_group-own.result.next.now c.of_group-own.result.entry
-able g c h = rw (found g c h, c.of_group-own.ensures.next, c.of_group-own.ensures.entry) h.sortable
+    → SortTurn g.row.WORDS g.row.NEEDS p earlier c.args.members.now c.args.turns.now c.args.needs.now c.args.allowance c.args.t c.args.out.now
+    → Sortable g.row.WORDS g.row.NEEDS p c.modules.result.now c.args.turns.now.items c.args.needs.now.section.now c.of_group.result.next.now c.of_group.result.entry
+able g c h = rw (found g c h, c.of_group.ensures.next, c.of_group.ensures.entry) h.sortable
 
 pub sort_stmts-requires : goal.sort_stmts-requires
 sort_stmts-requires g c =
