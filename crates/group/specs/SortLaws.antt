@@ -59,7 +59,8 @@ module _ {WORDS NEEDS ENTRIES : ℕ} {p : Project} {modules : List ℕ} (s : Sor
       → Sorted p modules (sort_modules p modules item_list_limit left already) s (Ok (s.group.split.count, made))
   unfolding sort_modules order_of
   sorts {made = made} (has_finished t e h) =
-      has_finished (rows_of (take s.group.split.count s.group.split.rows) (reverse (placed_of t))) (ap (order_of _) e ∙ ap (λ (rows : List ℕ). finished (rows_of rows (reverse (placed_of t))) made) (sym d.numbered)) (given t made e h, counted t made e h, d.count-is)
+      let same = ap (order_of _) e ∙ ap (λ (rows : List ℕ). finished (rows_of rows (reverse (placed_of t))) made) (sym d.numbered) in
+      has_finished (rows_of (take s.group.split.count s.group.split.rows) (reverse (placed_of t))) same (given t made e h, counted t made e h, d.count-is)
 
   pub sort-stopped : {r : Stopped Crowded} → Ran (run_of p modules left already) (Placed s) (λ (c : Crowded). ENTRIES < item_list_limit) (Err r)
       → Sorted p modules (sort_modules p modules item_list_limit left already) s (Err r)

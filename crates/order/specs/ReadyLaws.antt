@@ -61,7 +61,8 @@ any_same f g e (x ∷ l) = rw (e x, any_same f g e l)
 
 pub gives-shown : (p : Project) (m : ℕ) → any (is_giver m) p.items ≡ not (is_empty (kept_rows_of p m))
 gives-shown p m =
-    any_same (is_giver m) (λ (i : Item). is_kept i.kind && eqb i.in_module m) (λ (i : Item). swap_and (eqb m i.in_module) (is_kept i.kind) ∙ ap (λ (b : Bool). is_kept i.kind && b) (eqb-sym m i.in_module)) p.items
+    any_same (is_giver m) (λ (i : Item). is_kept i.kind && eqb i.in_module m)
+    (λ (i : Item). swap_and (eqb m i.in_module) (is_kept i.kind) ∙ ap (λ (b : Bool). is_kept i.kind && b) (eqb-sym m i.in_module)) p.items
     ∙ any-positions (λ (i : Item). is_kept i.kind && eqb i.in_module m) 0 p.items
     ∙ sym (ap (λ (l : List ℕ). not (is_empty l)) (kept_rows_of-positions p m))
 

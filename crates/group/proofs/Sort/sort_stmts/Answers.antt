@@ -2,6 +2,7 @@
 use Rattle.std.proofs.Common.{rules}
 use Rattle.std.proofs.lemmas.Result.{err_from_is_err_and}
 use Rattle.rules.specs.Items.{group_of}
+use Rattle.split.specs.Splits.{Splits}
 use Rattle.group.specs.Walking.{asked_group}
 use Rattle.group.specs.WalkingLaws.{asked-own, along-own, room_own, walks-on}
 use Rattle.group.specs.SortLaws.{sorts, sort-stopped}
@@ -43,7 +44,8 @@ returns-in_err-made g c =
     λ p h.
     let numbered = c.number_items.ensures.numbered p h.rows_shown h.splittable in
     let able = walks-on h numbered asked.next asked.entry laid.split laid.nodes laid.laid in
-    rw (e.1, e.2) (sort-stopped c.walk_items.new.self h.splittable (rw (c.walk_items.ensures.group, laid.split) numbered.splits) _ _ (rw (← c.walk_items.ensures.group) at (c.in_err-made.ensures.ran _ _ able)))
+    let splits : Splits p c.args.modules.now c.walk_items.new.self.group.split = rw (c.walk_items.ensures.group, laid.split) numbered.splits in
+    rw (e.1, e.2) (sort-stopped c.walk_items.new.self h.splittable splits _ _ (rw (← c.walk_items.ensures.group) at (c.in_err-made.ensures.ran _ _ able)))
 
 pub returns : goal.returns
 returns g c =
@@ -52,4 +54,5 @@ returns g c =
     λ p h.
     let numbered = c.number_items.ensures.numbered p h.rows_shown h.splittable in
     let able = walks-on h numbered asked.next asked.entry laid.split laid.nodes laid.laid in
-    sorts c.walk_items.new.self h.splittable (rw (c.walk_items.ensures.group, laid.split) numbered.splits) _ _ (rw (← c.walk_items.ensures.group) at (c.in_ok-made.ensures.ran _ _ able))
+    let splits : Splits p c.args.modules.now c.walk_items.new.self.group.split = rw (c.walk_items.ensures.group, laid.split) numbered.splits in
+    sorts c.walk_items.new.self h.splittable splits _ _ (rw (← c.walk_items.ensures.group) at (c.in_ok-made.ensures.ran _ _ able))
