@@ -32,7 +32,7 @@ fn join_word(matrix: &mut [u64], a: usize, word: u64)
     requires { a < length matrix.old }
     ensures { RowJoined 1 a (bit word) matrix.old matrix.new }
 {
-    matrix[a] = matrix[a] | word;
+    matrix[a] |= word;
 }
 
 // Joins each row that a set holds with a word.
