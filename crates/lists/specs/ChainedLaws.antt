@@ -1,7 +1,7 @@
 -- Laws of chains as src/chains.rt keeps them. Assumes nothing.
 use Rattle.std.specs.Prelude.{ℕ, zero, suc, ◌-◌, ◌≤◌, ◌<◌, ◌≡◌, Option, Some, None, length, get_or, take, drop, replicate}
 use Rattle.std.specs.Iterator.{YieldsFirst}
-use Rattle.std.proofs.Common.{arith, sym, ap, subst, ◌∙◌, length-take-le}
+use Rattle.std.proofs.Common.{arith, ap, subst, ◌∙◌, length-take-le}
 use Rattle.std.proofs.Math.Seq.{take-take}
 use Rattle.std.proofs.Math.ListN.{get_or-append}
 use Rattle.std.proofs.lemmas.List.{length-replicate, get_or-replicate}
