@@ -21,13 +21,14 @@ use Rattle.chunk.specs.declared.arrays.Arrays.{Arrays}
 use Rattle.chunk.specs.declared.gathered.Gathered.{Gathered}
 use Rattle.chunk.specs.declared.imports.Imports.{Imports}
 use Rattle.chunk.specs.declared.walk.ModuleWalk.{ModuleWalk}
-use Rattle.chunk.specs.declared.walk.Outcome.{Outcome}
-use Rattle.chunk.specs.declared.walk.Outcome.TheVariants.{WentOn, Placed}
+use Rattle.walks.specs.declared.Outcome.{Outcome}
+use Rattle.walks.specs.declared.Outcome.TheVariants.{WentOn, Placed}
+use Rattle.walks.specs.Runs.{went_on, placed_one, was_full}
 use Rattle.chunk.specs.Marks.{Marks}
 use Rattle.chunk.specs.Circles.{gathered_on, Appended, CircleGathered}
 use Rattle.chunk.specs.Imports.{Members, open_imports}
 use Rattle.chunk.proofs.ImportLaws.{members-most, open-outside, open-undone}
-use Rattle.chunk.specs.Walks.{marks_of, Grouped, Expandable, Expanded, put, no_room, Shows, Walking, Came, went_on, made-group, was-full, Behind, state_at, Undone, Importing, Circled, Leaving}
+use Rattle.chunk.specs.Walks.{marks_of, Grouped, Expandable, Expanded, put, no_room, Shows, Walking, Visited, Behind, state_at, Undone, Importing, Circled, Leaving}
 use Rattle.chunk.specs.WalkLaws.{empty-none, empty-some}
 use Rattle.chunk.specs.RunLaws.{entry-count}
 use Rattle.chunk.proofs.VisitLaws.{more_bytes, front-shown, visit-done, visit-alone, visit-uncircled, visit-whole, visit-gave-up, visit-marked, shows-passed, shows-grouped, shows-expanded}
@@ -54,12 +55,12 @@ module _ {b : Behind} {section : List ℕ} {imports : Imports} {a : Arrays} {w :
   marks-shown = h.shows.marks
 
   came-on : {l k : List ℕ} {after : Arrays} {r : ModuleWalk} → visited ≡ module_state l k b.made → Shows after r (module_state l k b.made)
-      → Came b.project (state_at m b) after (WentOn r)
+      → Visited b.project (state_at m b) after (WentOn r)
   unfolding groups_of
   came-on {r = r} e f = went_on {w = r} (ap groups_of e) (rw e f)
 
   came-done : is_done b.made m ≡ true
-      → Came b.project (state_at m b) a
+      → Visited b.project (state_at m b) a
       (WentOn (record { end = w.end - 1; done = w.done; marks = w.marks; groups = w.groups; used = w.used }))
   came-done d = came-on (visit-done b.project m b.rest b.marks b.made d) (shows-passed h.shows (omega (arith, front-count)))
 
@@ -90,17 +91,17 @@ module _ {b : Behind} {section : List ℕ} {imports : Imports} {a : Arrays} {w :
         )
 
     pub came-grouped : {set : ℕ} {r : ModuleWalk} (after : Arrays) → after.list ≡ a.list → Grouped w g set a.groups after.groups r → Marks set g
-        → Came b.project (state_at m b) after (Placed r)
+        → Visited b.project (state_at m b) after (Placed r)
     unfolding groups_of
-    came-grouped {r = r} after l k same = made-group {w = r} (ap groups_of e) (rw e (shows-grouped h.shows (omega (arith, front-count)) after l k same))
+    came-grouped {r = r} after l k same = placed_one {w = r} (ap groups_of e) (rw e (shows-grouped h.shows (omega (arith, front-count)) after l k same))
 
   -- Imports put in front.
-  pub came-expanded : {front marks : List ℕ} {word : ℕ} {o : Outcome} (after : Arrays) → after.groups ≡ a.groups
+  pub came-expanded : {front marks : List ℕ} {word : ℕ} {o : Outcome ModuleWalk} (after : Arrays) → after.groups ≡ a.groups
       → visited ≡ module_state (front ++ (m ∷ b.rest)) marks b.made → Expanded front a.list after.list w word o → Marks word marks
-      → Came b.project (state_at m b) after o
+      → Visited b.project (state_at m b) after o
   unfolding module_list
   came-expanded {front} {marks} after g e (put x fits) same = came-on e (shows-expanded h.shows (omega (arith, front-count)) front marks after g fits x same)
-  came-expanded {front} after g e (no_room f _) same = was-full (rw e (omega (arith, front-count, length-append front (m ∷ b.rest))))
+  came-expanded {front} after g e (no_room f _) same = was_full (rw e (omega (arith, front-count, length-append front (m ∷ b.rest))))
 
   pub expandable : {members : List ℕ} (set : ℕ) {count : ℕ} → Members members → count ≡ length (open_imports imports w.done set members)
       → Expandable (open_imports imports w.done set members) count a.list w
@@ -150,11 +151,11 @@ module _ {p : Project} {section : List ℕ} {imports : Imports} {a : Arrays} {w 
   pub at_front : Walking p section imports a w (state_at front (behind p a w s))
   at_front = subst (Walking p section imports a w) (front-shown h.shows some) h
 
-  pub from_front : {after : Arrays} {o : Outcome} → Came p (state_at front (behind p a w s)) after o → Came p s after o
-  from_front {after} {o} c = subst (λ (t : ModuleState). Came p t after o) (sym (front-shown h.shows some)) c
+  pub from_front : {after : Arrays} {o : Outcome ModuleWalk} → Visited p (state_at front (behind p a w s)) after o → Visited p s after o
+  from_front {after} {o} c = subst (λ (t : ModuleState). Visited p t after o) (sym (front-shown h.shows some)) c
 
   pub is-passed : bit w.done front ≡ true
-      → Came p s a (WentOn (record { end = w.end - 1; done = w.done; marks = w.marks; groups = w.groups; used = w.used }))
+      → Visited p s a (WentOn (record { end = w.end - 1; done = w.done; marks = w.marks; groups = w.groups; used = w.used }))
   is-passed d = from_front (came-done at_front (sym (h.shows.done front) ∙ d))
 
   pub is-undone : bit w.done front ≡ false → Undone (behind p a w s) section imports a w front

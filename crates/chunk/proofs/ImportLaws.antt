@@ -1,6 +1,8 @@
 -- Laws of open imports: of one module, member by member, and by the definitions of the walk. Assumes nothing.
 use Rattle.std.specs.Prelude.{ℕ, ◌+◌, ◌*◌, ◌≤◌, ◌<◌, ◌≡◌, Bool, ◌&&◌, length, drop}
 use Rattle.std.proofs.Common.{arith, add-one, ◌∙◌, drop_of_length-le, length-append}
+use Rattle.std.specs.List.{sum_by}
+use Rattle.std.proofs.lemmas.List.Sums.{sum_by-cons}
 use Rattle.std.proofs.Math.Path.{refl, sym, ap}
 use Rattle.std.proofs.Math.Bool.{not, and-true}
 use mathlib.Core.List.Memᴰ
@@ -41,6 +43,15 @@ open-most imports done circle m =
 pub member_below : {members : List ℕ} → Members members → (i : ℕ) → i < length members → get_or members i 0 < module_limit
 member_below {members} m i h = m.below (get_or members i 0) (get_or-∈ members i 0 h)
 
+-- Those of all members together.
+pub members-sum : (imports : Imports) (done circle : ℕ) (members : List ℕ)
+    → sum_by (λ m. length (open_of imports done circle m)) members ≡ length (open_imports imports done circle members)
+unfolding open_imports flat_map
+members-sum imports done circle [] = refl
+members-sum imports done circle (m ∷ members) =
+    rw (sum_by-cons (λ k. length (open_of imports done circle k)) m members, members-sum imports done circle members)
+    (sym (length-append (open_of imports done circle m) (open_imports imports done circle members)))
+
 module _ (imports : Imports) (done circle : ℕ) (members : List ℕ) where
   pub members-most : length members ≤ module_limit → length (open_imports imports done circle members) ≤ module_limit * import_limit
   unfolding open_imports
@@ -52,12 +63,6 @@ module _ (imports : Imports) (done circle : ℕ) (members : List ℕ) where
         ≡ open_of imports done circle (get_or members i 0) ++ open_imports imports done circle (drop (i + 1) members)
     unfolding open_imports flat_map
     members_step = rw (add-one, drop-cons members i 0)
-
-    pub members-length : length (open_imports imports done circle (drop i members))
-        ≡ length (open_of imports done circle (get_or members i 0)) + length (open_imports imports done circle (drop (i + 1) members))
-    members-length =
-        ap length members_step
-        ∙ length-append (open_of imports done circle (get_or members i 0)) (open_imports imports done circle (drop (i + 1) members))
 
     -- In the midst of placing: there is room for the member's open imports, and those of the members behind it are left.
     module _ {top : ℕ} {entries old : List ℕ} {at : ℕ} {a : List ℕ}

@@ -16,7 +16,7 @@ use Rattle.lists.specs.Stacks.{stack, placed_below}
 use Rattle.lists.specs.StackLaws.{placed-stack}
 use Rattle.chunk.specs.declared.arrays.Arrays.{Arrays}
 use Rattle.chunk.specs.declared.walk.ModuleWalk.{ModuleWalk}
-use Rattle.chunk.specs.declared.walk.Outcome.TheVariants.{WentOn}
+use Rattle.walks.specs.declared.Outcome.TheVariants.{WentOn}
 use Rattle.chunk.specs.Walks.{marks_of, Grouped, Expanded, put, Shows}
 
 -- What a visit makes of a state, by its steps.

@@ -4,7 +4,6 @@ use Rattle.std.proofs.Common.{arith, subst}
 use mathlib.Core.List.{List, ◌∷◌, flat_map}
 use Rattle.rules.specs.Lists.{any, elem, up_from}
 use Rattle.rules.specs.Project.{Project, import_row, pair_rows}
-use Rattle.rules.specs.Walk.{Stop}
 use Rattle.rules.specs.Modules.{ModuleState, is_done, module_list, groups_of, groups_in_order, module_start}
 use Rattle.rules.specs.Calls.{group_bytes, module_list_limit}
 use Rattle.laws.specs.ModuleWalk.{walked_start}
@@ -13,9 +12,8 @@ use Rattle.lists.specs.Stacks.{stack}
 use Rattle.chunk.specs.declared.arrays.Arrays.{Arrays}
 use Rattle.chunk.specs.declared.imports.Imports.{Imports}
 use Rattle.chunk.specs.declared.walk.ModuleWalk.{ModuleWalk}
-use Rattle.chunk.specs.declared.walk.Ending.{Ending}
 use Rattle.chunk.specs.Imports.{FitRows, Laid}
-use Rattle.chunk.specs.Walks.{marks_of, Started, Shows, Walking, Ended, has-finished, was-spent, list-was-full, Holds, Groupable}
+use Rattle.chunk.specs.Walks.{marks_of, Started, Shows, Walking, Holds, Groupable}
 
 -- A list filled with the entry and the modules, and numbers that are 0.
 pub walk-started : {list : List ℕ} (modules entry : ℕ) → modules < module_list_limit → stack list (modules + 1) ≡ entry ∷ up_from 0 modules
@@ -56,10 +54,5 @@ module _ {p : Project} {rows section : List ℕ} {count first : ℕ} (h : Groupa
         walked = walked_start h.accepted;
       }
 
-shown-holds : {a : Arrays} {w : ModuleWalk} {s : ModuleState} → Shows a w s → Holds a.groups w s
+pub shown-holds : {a : Arrays} {w : ModuleWalk} {s : ModuleState} → Shows a w s → Holds a.groups w s
 shown-holds h = record { count = h.count; used = h.used; bytes = h.bytes }
-
-pub groups-held : {stop : Stop ModuleState} {a : Arrays} {r : Ending} → Ended stop (Shows a) r → Ended stop (Holds a.groups) r
-groups-held (has-finished s e h) = has-finished s e (shown-holds h)
-groups-held (was-spent e) = was-spent e
-groups-held (list-was-full e) = list-was-full e

@@ -1,6 +1,7 @@
 -- Laws for the proofs of src/walk.rt. Assumes nothing.
-use Rattle.std.specs.Prelude.{ℕ, suc, ◌+◌, ◌-◌, ◌<◌, ◌≡◌, refl, true, false, List, [], ◌∷◌, ◌++◌, length, take, set}
-use Rattle.std.proofs.Common.{arith, add-one, take-suc-set}
+use Rattle.std.specs.Prelude.{ℕ, suc, ◌+◌, ◌<◌, ◌≡◌, refl, true, false, eqb, List, [], ◌∷◌, ◌++◌, length, take, set}
+use Rattle.std.proofs.Common.{arith, add-one, sym, take-suc-set}
+use Rattle.std.proofs.lemmas.Bool.{ne_eqb}
 use Rattle.std.proofs.Math.Seq.{append_snoc}
 use Rattle.rules.specs.Lists.{is_empty, up_from}
 use Rattle.lists.specs.Stacks.{stack}
@@ -17,18 +18,15 @@ unfolding is_empty
 empty-some [] h = absurd (omega arith)
 empty-some (x ∷ l) h = refl
 
--- The list is filled from below, the largest number first.
-pub fill_more : (a : List ℕ) (n i : ℕ) → i < n → i < length a → stack a i ≡ up_from (n - i) i → stack (set a i (n - 1 - i)) (i + 1) ≡ up_from (n - (i + 1)) (i + 1)
-unfolding up_from
-fill_more a n i h g e =
-    let low : n - 1 - i ≡ n - suc i = omega arith in
-    let up : suc (n - suc i) ≡ n - i = omega arith in
-    rw (stack_push a i (n - 1 - i) g, add-one, e, low, up)
+pub empty-length : (l : List ℕ) → is_empty l ≡ eqb (length l) 0
+unfolding is_empty
+empty-length [] = refl
+empty-length (x ∷ l) = sym (ne_eqb (suc (length l)) 0 (λ e. omega (arith, e)))
 
-pub started : (a : List ℕ) (n entry : ℕ) → n < length a → stack a n ≡ up_from (n - n) n → stack (set a n entry) (n + 1) ≡ entry ∷ up_from 0 n
-started a n entry g e =
-    let none : n - n ≡ 0 = omega arith in
-    rw (stack_push a n entry g, e, none)
+-- The list is filled from below, the largest number first.
+pub fill_more : (a : List ℕ) (n m : ℕ) → n < length a → stack a n ≡ up_from (m + 1) n → stack (set a n m) (n + 1) ≡ up_from m (n + 1)
+unfolding up_from
+fill_more a n m g e = rw (stack_push a n m g, e, add-one m, add-one n)
 
 -- A group: its count behind the groups before it, then its members.
 pub group-written : (a after members : List ℕ) (used : ℕ) → used < length a → take (used + 1 + length members) after ≡ take (used + 1) (set a used (length members)) ++ members

@@ -1,9 +1,8 @@
 -- What the functions of src/walk.rt require and guarantee: how arrays and numbers stand for a state of the module walk. Assumes nothing.
-use Rattle.std.specs.Prelude.{ℕ, ◌+◌, ◌*◌, ◌-◌, ◌≤◌, ◌<◌, ◌≡◌, false, ◌||◌, List, ◌∷◌, ◌++◌, length, take}
+use Rattle.std.specs.Prelude.{ℕ, ◌+◌, ◌*◌, ◌≤◌, ◌<◌, ◌≡◌, false, ◌||◌, List, ◌∷◌, ◌++◌, length, take}
 use Rattle.rules.specs.Lists.{is_empty, elem}
 use Rattle.rules.specs.Project.{Project, module_limit, import_limit, import_row, pair_rows, circle_lists, bad_circles}
-use Rattle.rules.specs.Walk.{Stop, finished, spent, full, run}
-use Rattle.rules.specs.Modules.{ModuleState, module_state, module_list, groups_of, groups_in_order, is_done, undone_imports, circle_of, outside_imports, visit_module, module_start, module_walk}
+use Rattle.rules.specs.Modules.{ModuleState, module_state, module_list, groups_of, groups_in_order, is_done, undone_imports, circle_of, outside_imports, visit_module, module_start}
 use Rattle.rules.specs.Calls.{group_bytes, module_list_limit}
 use Rattle.lists.specs.Bits.{bit}
 use Rattle.lists.specs.Stacks.{stack, placed_below}
@@ -15,10 +14,9 @@ use Rattle.chunk.specs.declared.arrays.Arrays.{Arrays}
 use Rattle.chunk.specs.declared.gathered.Gathered.{Gathered}
 use Rattle.chunk.specs.declared.imports.Imports.{Imports}
 use Rattle.chunk.specs.declared.walk.ModuleWalk.{ModuleWalk}
-use Rattle.chunk.specs.declared.walk.Outcome.{Outcome}
-use Rattle.chunk.specs.declared.walk.Outcome.TheVariants.{WentOn, Placed, ListFull}
-use Rattle.chunk.specs.declared.walk.Ending.{Ending}
-use Rattle.chunk.specs.declared.walk.Ending.TheVariants.{Finished, Spent, Full}
+use Rattle.walks.specs.declared.Outcome.{Outcome}
+use Rattle.walks.specs.declared.Outcome.TheVariants.{WentOn, ListFull}
+use Rattle.walks.specs.Runs.{Came}
 
 unfoldable pub marks_of : ModuleState → List ℕ
 marks_of (module_state list marks groups) = marks
@@ -44,7 +42,7 @@ pub record Expandable (imports : List ℕ) (count : ℕ) (list : List ℕ) (w : 
   pub within : w.end ≤ module_list_limit
 
 -- Imports put in front of the list, or no room for them: then nothing is written.
-pub data Expanded (imports before after : List ℕ) (w : ModuleWalk) (marks : ℕ) : Outcome → Type 0 where
+pub data Expanded (imports before after : List ℕ) (w : ModuleWalk) (marks : ℕ) : Outcome ModuleWalk → Type 0 where
   put : after ≡ placed_below (w.end + length imports) imports before → w.end + length imports ≤ module_list_limit
       → Expanded imports before after w marks
       (WentOn (record { end = w.end + length imports; done = w.done; marks = marks; groups = w.groups; used = w.used }))
@@ -75,11 +73,8 @@ pub record Walking (p : Project) (section : List ℕ) (imports : Imports) (a : A
   pub walked : WalkedIn p s
 
 -- What a visit comes to, by the paper's cases: the state after it, and whether it made a group. Of the arrays after a full list nothing is said.
-pub data Came (p : Project) (s : ModuleState) (a : Arrays) : Outcome → Type 0 where
-  went_on : {w : ModuleWalk} → groups_of (visit_module p s) ≡ groups_of s → Shows a w (visit_module p s) → Came p s a (WentOn w)
-  made-group : {w : ModuleWalk} {g : List ℕ} → groups_of (visit_module p s) ≡ g ∷ groups_of s → Shows a w (visit_module p s)
-      → Came p s a (Placed w)
-  was-full : module_list_limit < length (module_list (visit_module p s)) → Came p s a ListFull
+abbrev pub Visited : Project → ModuleState → Arrays → Outcome ModuleWalk → Type 0
+Visited p s a = Came module_list_limit module_list groups_of (Shows a) (groups_of s) (visit_module p s)
 
 -- What a visit finds behind the front module m: the rest of the list, the marks and the groups made.
 pub record Behind : Type 0 where
@@ -116,12 +111,6 @@ pub record Leaving (b : Behind) (imports : Imports) (a : Arrays) (w : ModuleWalk
   pub counted : count ≡ length (outside_imports b.project b.made (circle_of b.project m))
   pub some : 0 < count
 
--- How a run stops, as the definition's run does; `shows` says what the numbers show of the state where it ended.
-pub data Ended (stop : Stop ModuleState) (shows : ModuleWalk → ModuleState → Type 0) : Ending → Type 0 where
-  has-finished : {w : ModuleWalk} {n : ℕ} (s : ModuleState) → stop ≡ finished s n → shows w s → Ended stop shows (Finished w n)
-  was-spent : {n : ℕ} → stop ≡ spent n → Ended stop shows (Spent n)
-  list-was-full : {n : ℕ} → stop ≡ full n → Ended stop shows (Full n)
-
 -- The groups of a state: their number, and the bytes that a groups call writes in front of the array. What stands beyond is left free.
 pub record Holds (groups : List ℕ) (w : ModuleWalk) (s : ModuleState) : Type 0 where
   pub count : w.groups ≡ length (groups_of s)
@@ -136,9 +125,3 @@ pub record Groupable (p : Project) (rows section : List ℕ) (count first : ℕ)
   pub imports : p.imports ≡ pair_rows import_row rows
   pub circles : p.circles ≡ circle_lists section
   pub sound : bad_circles module_limit 0 section ≡ false
-
--- Between two visits of a run: `first` is the state that the run began with.
-pub record Running (p : Project) (section : List ℕ) (imports : Imports) (allowance : ℕ) (first : ModuleState) (a : Arrays) (w : ModuleWalk) (made : ℕ) : Type 0 where
-  pub state : ModuleState
-  pub walking : Walking p section imports a w state
-  pub same : run (module_walk p) module_list_limit allowance 0 first ≡ run (module_walk p) module_list_limit (allowance - made) made state

@@ -43,12 +43,7 @@ fn is_listed(section: &[u8], m: ModuleId) -> bool
     requires { bad_circles module_limit 0 section.now ≡ false }
     ensures { result ≡ any (elem m.0) (circle_lists section.now) }
 {
-    for list in Lists::new(section) {
-        if holds(list, m) {
-            return true;
-        }
-    }
-    false
+    Lists::new(section).any(|list| holds(list, m))
 }
 
 // Follows a module through its lists.

@@ -78,11 +78,10 @@ impl Imports {
         requires { Members members.now }
         ensures { result ≡ length (open_imports self.now done circle members.now) }
     {
-        let mut n = 0;
-        for &member in members {
-            n += self.count_open(ModuleId(member), done, circle);
-        }
-        n
+        members
+            .iter()
+            .map(|&member| self.count_open(ModuleId(member), done, circle))
+            .sum()
     }
 
     // Puts the open imports of m below `top`, the first uppermost; the index of the last.

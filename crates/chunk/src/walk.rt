@@ -1,12 +1,12 @@
 // The module walk (toposort_real_module_ids).
-ghost use Rattle.std.specs.Prelude.{◌+◌, ◌-◌, ◌≤◌, ◌<◌, ◌≡◌, length};
+ghost use Rattle.std.specs.Prelude.{◌+◌, ◌-◌, ◌≤◌, ◌<◌, ◌≡◌, ℕ, List, length};
 ghost use Rattle.rules.specs.Project.{Project, module_limit};
-ghost use Rattle.rules.specs.Walk.{run as runs};
-ghost use Rattle.rules.specs.Modules.{ModuleState, module_walk, run_modules};
+ghost use Rattle.rules.specs.Modules.{ModuleState, run_modules};
 ghost use Rattle.rules.specs.Calls.{module_list_limit};
 ghost use Rattle.chunk.specs.Circles.{gathered_on, Appended};
 ghost use Rattle.chunk.specs.Imports.{Members, open_of, open_imports};
-ghost use Rattle.chunk.specs.Walks.{Started, Written, Grouped, Expandable, Expanded, Walking, Came, Behind, state_at, Undone, Importing, Circled, Leaving, Shows, Ended, Holds, Groupable};
+ghost use Rattle.walks.specs.Runs.{Ran};
+ghost use Rattle.chunk.specs.Walks.{Started, Written, Grouped, Expandable, Expanded, Visited, Behind, state_at, Undone, Importing, Circled, Leaving, Holds, Groupable};
 
 use crate::arrays::Arrays;
 use crate::circles;
@@ -14,6 +14,8 @@ use crate::gathered::Gathered;
 use crate::imports::Imports;
 use lists::bits;
 use project::{Layout, ModuleId};
+use std::convert::Infallible;
+use walks::{Outcome, Stop, Visits};
 
 // The numbers of the walk's state: the end of the list, the modules done and marked, and the groups made with the bytes that they take.
 #[derive(Clone, Copy, Default)]
@@ -23,22 +25,6 @@ pub struct ModuleWalk {
     pub marks: u64,
     pub groups: usize,
     pub used: usize,
-}
-
-// What a visit came to.
-#[derive(Clone, Copy)]
-pub enum Outcome {
-    WentOn(ModuleWalk),
-    Placed(ModuleWalk),
-    ListFull,
-}
-
-// How a run stopped, with the visits made.
-#[derive(Clone, Copy)]
-pub enum Ending {
-    Finished(ModuleWalk, u32),
-    Spent(u32),
-    Full(u32),
 }
 
 impl ModuleWalk {
@@ -54,8 +40,8 @@ impl ModuleWalk {
         ensures { Started modules entry.0 list.new result }
     {
         let n = modules as usize;
-        for i in 0..n {
-            list[i] = modules - 1 - i as u8;
+        for (i, m) in (0..modules).rev().enumerate() {
+            list[i] = m;
         }
         list[n] = entry.0;
         Self {
@@ -115,7 +101,7 @@ impl<'a> Modules<'a> {
         list: &mut [u8],
         w: ModuleWalk,
         marks: u64,
-    ) -> Outcome
+    ) -> Outcome<ModuleWalk>
         requires members { Members members.now }
         requires expandable { Expandable (open_imports self.now.imports.now w.done circle members.now) «open» list.old w }
         ensures { Expanded (open_imports self.now.imports.now w.done circle members.now) list.old
@@ -144,10 +130,10 @@ impl<'a> Modules<'a> {
         ensures { Appended circle.old circle.new
             (open_imports self.now.imports.now done circle.old.have (gathered_on circle.old)) }
     {
-        let n = circle.count;
         let set = circle.have;
-        for i in 0..n {
-            self.append_open(ModuleId(circle.array[i]), done, set, circle);
+        let array = circle.array;
+        for &member in &array[..circle.count] {
+            self.append_open(ModuleId(member), done, set, circle);
         }
     }
 
@@ -160,11 +146,11 @@ impl<'a> Modules<'a> {
         m: ModuleId,
         circle: &mut Gathered,
         open: usize,
-    ) -> Outcome
+    ) -> Outcome<ModuleWalk>
         requires { (b : Behind) × Leaving b self.now.imports.now arrays.old w m.0 circle.old «open» }
         ensures { (b : Behind)
             → Leaving b self.now.imports.now arrays.old w m.0 circle.old «open»
-            → Came b.project (state_at m.0 b) arrays.new result }
+            → Visited b.project (state_at m.0 b) arrays.new result }
     {
         if bits::has(w.marks, m.0) {
             self.append_all(w.done, circle);
@@ -188,11 +174,11 @@ impl<'a> Modules<'a> {
         w: ModuleWalk,
         m: ModuleId,
         circle: &mut Gathered,
-    ) -> Outcome
+    ) -> Outcome<ModuleWalk>
         requires { (b : Behind) × Circled b self.now.imports.now arrays.old w m.0 circle.old }
         ensures { (b : Behind)
             → Circled b self.now.imports.now arrays.old w m.0 circle.old
-            → Came b.project (state_at m.0 b) arrays.new result }
+            → Visited b.project (state_at m.0 b) arrays.new result }
     {
         let open = self
             .imports
@@ -210,11 +196,11 @@ impl<'a> Modules<'a> {
         w: ModuleWalk,
         m: ModuleId,
         open: usize,
-    ) -> Outcome
+    ) -> Outcome<ModuleWalk>
         requires { (b : Behind) × Importing b self.now.section.now self.now.imports.now arrays.old w m.0 «open» }
         ensures { (b : Behind)
             → Importing b self.now.section.now self.now.imports.now arrays.old w m.0 «open»
-            → Came b.project (state_at m.0 b) arrays.new result }
+            → Visited b.project (state_at m.0 b) arrays.new result }
     {
         let mut circle = circles::circle_of(self.section, m);
         if circle.count == 0 {
@@ -224,11 +210,11 @@ impl<'a> Modules<'a> {
     }
 
     // Step 2, for m that is not done: without undone imports it is a group.
-    fn visit_undone(&self, arrays: &mut Arrays, w: ModuleWalk, m: ModuleId) -> Outcome
+    fn visit_undone(&self, arrays: &mut Arrays, w: ModuleWalk, m: ModuleId) -> Outcome<ModuleWalk>
         requires { (b : Behind) × Undone b self.now.section.now self.now.imports.now arrays.old w m.0 }
         ensures { (b : Behind)
             → Undone b self.now.section.now self.now.imports.now arrays.old w m.0
-            → Came b.project (state_at m.0 b) arrays.new result }
+            → Visited b.project (state_at m.0 b) arrays.new result }
     {
         let open = self.imports.count_all(&[m.0], w.done, 0);
         if open == 0 {
@@ -236,15 +222,49 @@ impl<'a> Modules<'a> {
         }
         self.visit_importing(arrays, w, m, open)
     }
+}
 
-    // One visit. The list holds w.end entries, at least one. Step 1: a module that is done is passed over.
-    pub fn visit(&self, arrays: &mut Arrays, w: ModuleWalk) -> Outcome
-        requires end_nonzero { 0 < w.end }
-        requires walking { (p : Project) × (s : ModuleState) × Walking p self.now.section.now self.now.imports.now arrays.old w s }
-        ensures { (p : Project) (s : ModuleState)
-            → Walking p self.now.section.now self.now.imports.now arrays.old w s
-            → Came p s arrays.new result }
-    {
+impl<'a> Visits<Arrays> for Modules<'a> {
+    ghost use Rattle.std.specs.Prelude.{⊤};
+    ghost use Rattle.rules.specs.Modules.{module_walk, groups_of};
+    ghost use Rattle.rules.specs.Calls.{module_list_limit};
+    ghost use Rattle.chunk.specs.Walks.{Walking};
+    ghost use Rattle.chunk.specs.RunLaws.{walking-within};
+
+    type State = ModuleWalk;
+
+    type Crowded = Infallible;
+
+    ghost Input = { Project };
+
+    ghost SpecState = { ModuleState };
+
+    ghost walk = { module_walk };
+
+    ghost Piece = { List ℕ };
+
+    ghost placed = { groups_of };
+
+    ghost limit = { module_list_limit };
+
+    ghost IsAt = { λ p v a w s. Walking p v.section.now v.imports.now a w s };
+
+    ghost HasRoom = { λ _ _ _. ⊤ };
+
+    ghost Crowds = { λ _ _. ⊥ };
+
+    // The list is empty.
+    fn has_ended(&self, _arrays: &Arrays, w: ModuleWalk) -> bool {
+        w.end == 0
+    }
+
+    // There always is room: the list's array is as long as the limit.
+    fn has_room(&self, _arrays: &Arrays, _w: ModuleWalk) -> Result<(), Infallible> {
+        Ok(())
+    }
+
+    // Step 1: a module that is done is passed over.
+    fn visit(&self, arrays: &mut Arrays, w: ModuleWalk) -> Outcome<ModuleWalk> {
         let m = ModuleId(arrays.list[w.end - 1]);
         if bits::has(w.done, m.0) {
             return Outcome::WentOn(w.passed());
@@ -252,35 +272,7 @@ impl<'a> Modules<'a> {
         self.visit_undone(arrays, w, m)
     }
 
-    // Visits until the list is empty, the allowance is spent or the list is full, tested in this order; a visit that fills the list counts.
-    pub fn run(&self, arrays: &mut Arrays, start: ModuleWalk, allowance: u32) -> Ending
-        requires { (p : Project) × (s : ModuleState) × Walking p self.now.section.now self.now.imports.now arrays.old start s }
-        ensures { (p : Project) (s : ModuleState)
-            → Walking p self.now.section.now self.now.imports.now arrays.old start s
-            → Ended (runs (module_walk p) module_list_limit allowance 0 s) (Shows arrays.new) result }
-    {
-        let mut w = start;
-        let mut made: u32 = 0;
-        loop {
-            let end = w.end;
-            if end == 0 {
-                return Ending::Finished(w, made);
-            }
-            if made == allowance {
-                return Ending::Spent(made);
-            }
-            made += 1;
-            let o = self.visit(arrays, w);
-            let Outcome::WentOn(after) = o else {
-                let Outcome::Placed(after) = o else {
-                    return Ending::Full(made);
-                };
-                w = after;
-                continue;
-            };
-            w = after;
-        }
-    }
+    ghost within = { λ _ _ _ _ _ h. walking-within h };
 }
 
 // The groups of a project's modules, of which there are `modules`, from its imports and circles: sections of its bytes. Where the groups are not all
@@ -292,10 +284,10 @@ pub fn toposort_real_module_ids(
     entry: ModuleId,
     arrays: &mut Arrays,
     allowance: u32,
-) -> Ending
+) -> Result<(ModuleWalk, u32), Stop<Infallible>>
     requires { (p : Project) × Groupable p imports.now section.now modules entry.0 }
     ensures { (p : Project) → Groupable p imports.now section.now modules entry.0
-        → Ended (run_modules p module_list_limit allowance) (Holds arrays.new.groups) result }
+        → Ran (run_modules p module_list_limit allowance) (Holds arrays.new.groups) (λ _. ⊥) result }
 {
     let mut laid = Imports::new();
     laid.lay_out(imports);
@@ -304,5 +296,5 @@ pub fn toposort_real_module_ids(
         section,
         imports: &laid,
     };
-    walk.run(arrays, start, allowance)
+    walks::run(&walk, arrays, start, allowance, 0)
 }

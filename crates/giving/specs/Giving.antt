@@ -1,6 +1,5 @@
--- What the functions of this crate require and guarantee: sets of modules, and rows stored one behind the other. Assumes nothing.
-use Rattle.std.specs.Prelude.{ℕ, ◌+◌, ◌<◌, ◌≡◌, Bool, not, ◌&&◌, List, reverse, eqb, length}
-use Rattle.std.proofs.lemmas.List.Edits.{sets}
+-- What the functions of this crate require and guarantee: sets of modules. Assumes nothing.
+use Rattle.std.specs.Prelude.{ℕ, ◌<◌, ◌≡◌, Bool, not, ◌&&◌, List, reverse, eqb}
 use Rattle.rules.specs.Lists.{is_empty, keep}
 use Rattle.rules.specs.Project.{Item, Import, Project, module_limit}
 use Rattle.rules.specs.Modules.{imports_of}
@@ -8,6 +7,7 @@ use Rattle.rules.specs.Items.{is_kept}
 use Rattle.laws.specs.Lists.{◌∈◌, Once}
 use Rattle.laws.specs.Counting.{Below}
 use Rattle.lists.specs.Bits.{bit}
+pub use Rattle.split.specs.Stored.{Stored}
 
 -- Members of a group: modules, each once.
 pub record Members (members : List ℕ) : Type 0 where
@@ -35,8 +35,3 @@ ImportersShown p importers = (m : ℕ) → bit importers m ≡ not (is_empty (im
 -- the members of a group that are not used and give items, last first
 abbrev pub giving_of : ℕ → ℕ → List ℕ → List ℕ
 giving_of used givers members = keep (λ m. not (bit used m) && bit givers m) (reverse members)
-
--- Entries stored one behind the other from `start` on; `end` is the place behind them.
-pub record Stored (entries : List ℕ) (start : ℕ) (before after : List ℕ) (end : ℕ) : Type 0 where
-  pub whole : after ≡ sets before start entries
-  pub count : end ≡ start + length entries

@@ -1,4 +1,5 @@
 pub mod Giving
+pub mod GivingModules
 pub mod SetLaws
 pub mod StoreLaws
 pub mod KeptLaws

@@ -100,10 +100,6 @@ not-not : (b : Bool) → not (not b) ≡ b
 not-not true = refl
 not-not false = refl
 
-pub not-false : (b : Bool) → not b ≡ false → b ≡ true
-not-false true e = refl
-not-false false e = sym e
-
 pub keeps-one : (p : Project) (members : List ℕ) (importers : ℕ) {r : Bool} → length members ≡ 1 → ImportersShown p importers
     → r ≡ bit importers (get_or members 0 0) → not r ≡ keeps_row_order p members
 unfolding keeps_row_order

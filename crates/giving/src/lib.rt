@@ -8,12 +8,12 @@ ghost use Rattle.rules.specs.Lists.{any, elem};
 ghost use Rattle.rules.specs.Project.{Project, module_limit, item_row, import_row, pair_rows};
 ghost use Rattle.rules.specs.Items.{keeps_row_order};
 ghost use Rattle.lists.specs.Bits.{bit};
-ghost use Rattle.giving.specs.Giving.{Members, is_importer, is_giver, giving_of, Stored, ImportersBelow, ItemsBelow, ImportersShown};
+ghost use Rattle.giving.specs.Giving.{Members, is_importer, is_giver, giving_of, ImportersBelow, ItemsBelow, ImportersShown};
 
 use lists::bits;
-use project::ModuleId;
 use project::reader::Reader;
 use project::sections::{ImportRow, ItemRow};
+use project::{Layout, ModuleId};
 
 // The modules that import.
 pub fn importers(imports: &[u8]) -> u64
@@ -49,35 +49,14 @@ fn gives(used: u64, givers: u64, m: ModuleId) -> bool
     !bits::has(used, m.0) && bits::has(givers, m.0)
 }
 
-// The members of a group that are not used and give items, last first, written to `modules`; how many.
-pub fn giving(members: &[u8], used: u64, givers: u64, modules: &mut [u8]) -> usize
-    requires members { Members members.now }
-    requires members_in_bounds { length members.now ≤ length modules.old }
-    ensures { Stored (giving_of used givers members.now) 0 modules.old modules.new result }
-{
-    let mut n = 0;
-    let mut i = members.len();
-    while 0 < i {
-        i -= 1;
-        let m = ModuleId(members[i]);
-        if gives(used, givers, m) {
-            modules[n] = m.0;
-            n += 1;
-        }
-    }
-    n
-}
-
 // A set with the members of a group.
 pub fn with_members(set: u64, members: &[u8]) -> u64
     requires { Members members.now }
     ensures { (m : ℕ) → bit result m ≡ (elem m members.now || bit set m) }
 {
     let mut all = set;
-    let mut i = 0;
-    while i < members.len() {
-        all = bits::with(all, members[i]);
-        i += 1;
+    for &m in members {
+        all = bits::with(all, m);
     }
     all
 }
@@ -91,4 +70,38 @@ pub fn keeps_row_order(members: &[u8], importers: u64) -> bool
         return false;
     }
     !bits::has(importers, members[0])
+}
+
+// The modules that give a group's items: the first `count` of an array.
+#[derive(Drop)]
+pub struct GivingModules {
+    pub array: [u8; Layout::MODULE_ROOM],
+    pub count: usize,
+    pub ghost within: { (length array ≡ module_limit) × (count ≤ module_limit) },
+}
+
+impl GivingModules {
+    ghost use Rattle.giving.specs.GivingModules.{giving_on};
+
+    // The members of a group that are not used and give items, last first.
+    pub fn new(members: &[u8], used: u64, givers: u64) -> Self
+        requires { Members members.now }
+        ensures { giving_on result ≡ giving_of used givers members.now }
+    {
+        let mut array = [0; Layout::MODULE_ROOM];
+        let mut count = 0;
+        for &m in members.iter().rev() {
+            if gives(used, givers, ModuleId(m)) {
+                array[count] = m;
+                count += 1;
+            }
+        }
+        Self { array, count }
+    }
+
+    pub fn modules(&self) -> &[u8]
+        ensures { result.now ≡ giving_on self.now }
+    {
+        &self.array[..self.count]
+    }
 }

@@ -1,10 +1,14 @@
 -- The graph of one group's needs on arrays. A graph is a list of needs, the one added last in front, as in rules' Paths. Assumes nothing.
-use Rattle.std.specs.Prelude.{ℕ, suc, ◌*◌, ◌≤◌, ◌<◌, ◌≡◌, Bool, List, [], ◌∷◌, map, reverse, eqb, length, get_or, drop}
-use Rattle.rules.specs.Project.{Need, need_limit, need_row}
+use Rattle.std.specs.Prelude.{ℕ, ◌*◌, ◌≤◌, ◌<◌, ◌≡◌, Bool, List, [], ◌∷◌, map, reverse, eqb, length, get_or, drop, replicate}
+use Rattle.rules.specs.Project.{Need, item_limit, need_row}
 use Rattle.rules.specs.Paths.{dependencies_of, dependants_of, weight_in, can_reach, in_paths}
-use Rattle.lists.specs.Pairs.{Pair, pair, different_pairs, pairs_of, Seen, Room, Added, targets, Onward}
+use Rattle.lists.specs.declared.chains.Chains.{Chains}
+use Rattle.lists.specs.Pairs.{Pair, pair, different_pairs, pairs_of, Seen, Room, Added}
 use Rattle.graph.specs.Rows.{Rows, cleared, Holds, Rest}
 use Rattle.graph.specs.Reach.{Transposed}
+use Rattle.graph.specs.Neighbours.{nodes_along}
+use Rattle.graph.specs.declared.Graph.{Graph}
+use Rattle.graph.specs.declared.neighbours.Neighbours.{Neighbours}
 
 -- The matrices: of the pairs that needs were added for, of those whose weight is Maybe, of what each item reaches, where rows have one word of what
 -- reaches each, and of the record of paths.
@@ -18,13 +22,13 @@ pub record Matrices : Type 0 where
 abbrev pub matrices : List ℕ → List ℕ → List ℕ → List ℕ → List ℕ → Matrices
 matrices seen weak reach into paths = record { seen = seen; weak = weak; reach = reach; into = into; paths = paths }
 
--- What a graph of n items asks of them: a row for each item.
+-- What a graph of n items asks of them: a row for each item, of `into` where rows have one word.
 pub record Space (words n : ℕ) (m : Matrices) : Type 0 where
   pub seen-rows : Rows words n m.seen
   pub seen_most : length m.seen ≤ 65536
   pub weak-rows : Rows words n m.weak
   pub reach-rows : Rows words n m.reach
-  pub into-rows : Rows words n m.into
+  pub into-rows : words ≡ 1 → Rows words n m.into
   pub paths-rows : Rows words n m.paths
 
 abbrev pub ends : Need → Pair
@@ -54,7 +58,7 @@ pub record Cleared (words n : ℕ) (m m' : Matrices) : Type 0 where
   pub seen-whole : m'.seen ≡ cleared (n * words) m.seen
   pub weak-whole : m'.weak ≡ cleared (n * words) m.weak
   pub reach-whole : m'.reach ≡ cleared (n * words) m.reach
-  pub into-whole : words ≡ 1 → m'.into ≡ cleared (n * words) m.into
+  pub into-whole : words ≡ 1 → m'.into ≡ replicate 64 0
   pub into-left : (words ≡ 1 → ⊥) → m'.into ≡ m.into
   pub paths-whole : m'.paths ≡ cleared (n * words) m.paths
 
@@ -76,38 +80,34 @@ pub record EdgeAdded (words n x y weight : ℕ) (m : Matrices) (from to : List �
   pub reach-rest : Rest words n m.reach m'.reach
   pub paths-rest : Rest words n m.paths m'.paths
 
--- The neighbours of n items on chains: along the chain of each number below n, from heads[x] by `next`, stand its neighbours in their order, as entries
--- of `ends`. The first `count` places are in use. Entries lead onward and the numbers are items, so that a loop along a chain ends and may use them.
-pub record Chained (neighbours : ℕ → List ℕ) (n : ℕ) (ends heads next : List ℕ) : Type 0 where
-  pub count : ℕ
-  pub most : count ≤ need_limit
-  pub ends-size : count ≤ length ends
-  pub next-size : count ≤ length next
-  pub heads-size : n ≤ length heads
-  pub ends-below : (i : ℕ) → i < count → get_or ends i 0 < n
-  pub heads-most : (x : ℕ) → x < n → get_or heads x 0 ≤ count
-  pub next-onward : (i : ℕ) → i < count → Onward (suc i) count (get_or next i 0)
-  pub along : (x : ℕ) → x < n → targets ends next count (get_or heads x 0) ≡ neighbours x
+-- The arrays of a graph show needs.
+abbrev pub matrices_of : {WORDS NEEDS : ℕ} → Graph WORDS NEEDS → Matrices
+matrices_of g = matrices g.pairs.seen g.weak g.reach g.into g.paths
 
--- "`Dependencies` are outgoing, `Dependants` incoming", of needs in row order.
-pub record Neighbours (n : ℕ) (needs : List Need) (from to heads-out next-out heads-in next-in : List ℕ) : Type 0 where
-  pub dependencies : Chained (dependencies_of needs) n to heads-out next-out
-  pub dependants : Chained (dependants_of needs) n from heads-in next-in
+abbrev pub Shown : {WORDS NEEDS : ℕ} → List Need → Graph WORDS NEEDS → Type 0
+Shown graph g = Shows g.words g.nodes graph (matrices_of g) g.pairs.from g.pairs.to g.pairs.count
 
--- What chaining the neighbours of as many items as there are heads asks for.
-pub record LinkRoom (from to : List ℕ) (count : ℕ) (heads-out next-out heads-in next-in : List ℕ) : Type 0 where
-  pub most : count ≤ need_limit
-  pub from-size : count ≤ length from
-  pub to-size : count ≤ length to
-  pub next-out-size : count ≤ length next-out
-  pub next-in-size : count ≤ length next-in
-  pub heads-size : length heads-in ≡ length heads-out
-  pub from-below : (i : ℕ) → i < count → get_or from i 0 < length heads-out
-  pub to_below : (i : ℕ) → i < count → get_or to i 0 < length heads-out
+-- The neighbours of an item on its chain, and those that an iterator has left.
+abbrev pub neighbours_at : {NEEDS : ℕ} → List ℕ → Chains item_limit NEEDS → ℕ → List ℕ
+neighbours_at ends chains x = nodes_along ends chains.next (get_or chains.heads x 0)
 
--- What it gives: where the pairs are the different ones of some needs, those needs' neighbours. From `count` on the places are as they were.
-pub record LinksMade (n : ℕ) (from to : List ℕ) (count : ℕ) (old-out old-in heads-out next-out heads-in next-in : List ℕ) : Type 0 where
-  pub neighbours : (needs : List Need) → pairs_of from to count ≡ different_pairs (map ends needs)
-      → Neighbours n needs from to heads-out next-out heads-in next-in
-  pub out-rest : drop count next-out ≡ drop count old-out
-  pub in_rest : drop count next-in ≡ drop count old-in
+abbrev pub nodes_left : Neighbours → List ℕ
+nodes_left n = nodes_along n.ends.now n.chain.next.now n.chain.entry
+
+-- Needs laid out for a walk: "`Dependencies` are outgoing, `Dependants` incoming", of needs in row order; the record of paths, and the weights that are
+-- Maybe.
+pub record Laid {WORDS NEEDS : ℕ} (needs : List Need) (g : Graph WORDS NEEDS) : Type 0 where
+  pub dependencies : (x : ℕ) → x < g.nodes → neighbours_at g.pairs.to g.outgoing x ≡ dependencies_of needs x
+  pub dependants : (x : ℕ) → x < g.nodes → neighbours_at g.pairs.from g.incoming x ≡ dependants_of needs x
+  pub paths-shown : Holds g.words g.nodes (in_paths (reverse needs)) g.paths
+  pub weak-shown : Holds g.words g.nodes (is_maybe (reverse needs)) g.weak
+
+-- After the neighbours were chained all else is as it was, but for the heads of numbers that are no items, which are left free.
+pub record Linked {WORDS NEEDS : ℕ} (old new : Graph WORDS NEEDS) : Type 0 where
+  pub matrices-kept : matrices_of new ≡ matrices_of old
+  pub words-kept : new.words ≡ old.words
+  pub from-kept : new.pairs.from ≡ old.pairs.from
+  pub to_kept : new.pairs.to ≡ old.pairs.to
+  pub count-kept : new.pairs.count ≡ old.pairs.count
+  pub out-rest : drop old.pairs.count new.outgoing.next ≡ drop old.pairs.count old.outgoing.next
+  pub in_rest : drop old.pairs.count new.incoming.next ≡ drop old.pairs.count old.incoming.next

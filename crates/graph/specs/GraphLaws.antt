@@ -1,5 +1,5 @@
 -- Laws of the graph on arrays. Assumes nothing.
-use Rattle.std.specs.Prelude.{ℕ, suc, ◌+◌, ◌*◌, ◌≤◌, ◌<◌, ◌≡◌, refl, Bool, true, false, ◌&&◌, length, get_or}
+use Rattle.std.specs.Prelude.{ℕ, suc, ◌+◌, ◌*◌, ◌≤◌, ◌<◌, ◌≡◌, refl, Bool, true, false, ◌&&◌, length, get_or, replicate}
 use Rattle.std.proofs.Common.{arith, sym, ap, ◌∙◌}
 use mathlib.Core.List.{List, [], ◌∷◌, ◌++◌, map, zip_with, reverse, reverse-cons, map-append}
 use Rattle.std.proofs.Math.Dec.{eqb}
@@ -12,11 +12,11 @@ use Rattle.laws.specs.Orders.{and-true}
 use Rattle.lists.specs.Pairs.{Pair, pair, holds_pair, add_pair, add_pairs, different_pairs, pairs_of, store_unless, Added}
 use Rattle.lists.specs.ArrayLaws.{after-set}
 use Rattle.lists.specs.PairLaws.{add_pair-old, length-add_pair, seen-added}
-use Rattle.graph.specs.Rows.{cleared, cell, Holds, Rest, Stored}
-use Rattle.graph.specs.RowLaws.{same_place, column, place, rows-sized, rows-cleared}
+use Rattle.graph.specs.Rows.{Rows, Fits, cleared, cell, Holds, Rest, Stored}
+use Rattle.graph.specs.RowLaws.{same_place, column, place, rows-cleared}
 use Rattle.graph.specs.Reach.{WayAdded}
 use Rattle.graph.specs.WordLaws.{transposed-cleared}
-use Rattle.graph.specs.Graph.{Matrices, Space, ends, is_maybe, Shows, Cleared, EdgeRoom, EdgeAdded}
+use Rattle.graph.specs.Graph.{Matrices, matrices, Space, ends, is_maybe, Shows, Cleared, EdgeRoom, EdgeAdded}
 
 -- The different pairs of needs, with one need more.
 add_pairs-snoc : (pairs rows : List Pair) (p : Pair) → add_pairs pairs (rows ++ (p ∷ [])) ≡ add_pair (add_pairs pairs rows) p
@@ -70,23 +70,26 @@ stored-below bound true l n x n' within h held most below j less = below j (omeg
 stored-below bound false l n x n' within h held most below j less =
     after-set (λ y. y < bound) l n j x 0 within (λ e. h) (λ d. below j (omega arith))
 
--- The matrices keep their rows while they keep their lengths.
-pub space-sized : {words n : ℕ} {m m' : Matrices} → Space words n m → length m'.seen ≡ length m.seen → length m'.weak ≡ length m.weak
-    → length m'.reach ≡ length m.reach → length m'.into ≡ length m.into → length m'.paths ≡ length m.paths → Space words n m'
-space-sized {m = m} {m' = m'} s seen weak reach into paths =
+-- Matrices of a graph's sizes have its rows.
+pub space : {WORDS words n : ℕ} {seen weak reach into paths : List ℕ} → Fits WORDS words n → WORDS ≤ 65536 → length seen ≡ WORDS → length weak ≡ WORDS
+    → length reach ≡ WORDS → length into ≡ 64 → length paths ≡ WORDS → Space words n (matrices seen weak reach into paths)
+space {WORDS} {words} {n} fits most seen weak reach into paths =
     record {
-      seen-rows = rows-sized m.seen m'.seen s.seen-rows seen;
-      seen_most = omega (arith, s.seen_most);
-      weak-rows = rows-sized m.weak m'.weak s.weak-rows weak;
-      reach-rows = rows-sized m.reach m'.reach s.reach-rows reach;
-      into-rows = rows-sized m.into m'.into s.into-rows into;
-      paths-rows = rows-sized m.paths m'.paths s.paths-rows paths;
+      seen-rows = rows _ seen;
+      seen_most = omega (arith, seen);
+      weak-rows = rows _ weak;
+      reach-rows = rows _ reach;
+      into-rows = λ one. record { numbers = fits.numbers; most = fits.most; size = rw one (omega (arith, fits.numbers, one, into)) };
+      paths-rows = rows _ paths;
     }
+  where
+    rows : (matrix : List ℕ) → length matrix ≡ WORDS → Rows words n matrix
+    rows matrix e = record { numbers = fits.numbers; most = fits.most; size = omega (arith, fits.size, e) }
 
 -- Cleared matrices show the graph without needs.
 pub all-cleared : {words n : ℕ} {m m' : Matrices} → Space words n m' → m'.seen ≡ cleared (n * words) m.seen
     → m'.weak ≡ cleared (n * words) m.weak → m'.reach ≡ cleared (n * words) m.reach → m'.paths ≡ cleared (n * words) m.paths
-    → (words ≡ 1 → m'.into ≡ cleared (n * words) m.into) → ((words ≡ 1 → ⊥) → m'.into ≡ m.into) → Cleared words n m m'
+    → (words ≡ 1 → m'.into ≡ replicate 64 0) → ((words ≡ 1 → ⊥) → m'.into ≡ m.into) → Cleared words n m m'
 unfolding different_pairs add_pairs pairs_of zip_with holds_pair any is_maybe weight_in can_reach in_paths
 all-cleared {words} {n} {m} space seen weak reach paths into left =
     record {
@@ -101,7 +104,7 @@ all-cleared {words} {n} {m} space seen weak reach paths into left =
             seen-pairs = rw seen (rows-cleared words n m.seen);
             weights = rw weak (rows-cleared words n m.weak);
             reached = rw reach (rows-cleared words n m.reach);
-            transposed = λ one. rw (reach, into one, one) (transposed-cleared n m.reach m.into (omega (arith, space.reach-rows.numbers)));
+            transposed = λ one. rw (reach, into one, one) (transposed-cleared n m.reach (omega (arith, space.reach-rows.numbers)));
             in-paths = rw paths (rows-cleared words n m.paths);
           };
       seen-whole = seen;

@@ -4,6 +4,7 @@ pub mod Reach
 pub mod ReachLaws
 pub mod Words
 pub mod WordLaws
+pub mod Neighbours
 pub mod Graph
 pub mod GraphLaws
 pub mod NeighbourLaws

@@ -1,18 +1,20 @@
 -- Laws of neighbours on chains. Assumes nothing.
-use Rattle.std.specs.Prelude.{ℕ, ◌≤◌, ◌<◌, ◌≡◌, refl, ◌||◌, eqb, length, get_or, take, replicate}
+use Rattle.std.specs.Prelude.{ℕ, ◌≤◌, ◌<◌, ◌≡◌, refl, ◌||◌, eqb, length, get_or, take, drop, replicate}
 use Rattle.std.proofs.Common.{arith, sym, ap₂, ◌∙◌}
 use Rattle.std.proofs.Math.Path.{ap}
 use Rattle.std.proofs.Math.Bool.{and_comm}
-use mathlib.Core.List.{List, [], ◌∷◌, map, map-map, map-append, zip_with}
-use Rattle.std.proofs.lemmas.List.{length-replicate}
+use mathlib.Core.List.{List, [], ◌∷◌, ◌++◌, map, map-map, map-append, zip_with, reverse, reverse-reverse}
 use Rattle.rules.specs.Lists.{any}
-use Rattle.rules.specs.Project.{Need, need_limit}
+use Rattle.rules.specs.Project.{Need, item_limit}
 use Rattle.rules.specs.Paths.{dependencies_of, dependants_of}
 use Rattle.laws.specs.Lists.{Tested, holds, fails, tested}
-use Rattle.lists.specs.ArrayLaws.{zeros-replicate}
-use Rattle.lists.specs.Pairs.{Pair, pair, same_pair, holds_pair, seconds_of, add_pair, add_pairs, different_pairs, pairs_of, Linkable, Linked}
-use Rattle.lists.specs.PairLaws.{add_pair-old, add_pair-new, different-seconds, targets-seconds}
-use Rattle.graph.specs.Graph.{ends, Chained, LinkRoom, LinksMade}
+use Rattle.lists.specs.declared.chains.Chains.{Chains}
+use Rattle.lists.specs.ChainedLaws.{places-none, head-cleared, places-linked}
+use Rattle.lists.specs.Pairs.{Pair, pair, same_pair, holds_pair, seconds_of, add_pair, add_pairs, different_pairs, pairs_of, Linked}
+use Rattle.lists.specs.PairLaws.{add_pair-old, add_pair-new, different-seconds}
+use Rattle.graph.specs.Neighbours.{nodes_along}
+use Rattle.graph.specs.declared.Graph.{Graph}
+use Rattle.graph.specs.Graph.{ends, Shown, neighbours_at}
 
 -- Pairs with their numbers exchanged: the different ones are the exchanged different ones.
 swap : Pair → Pair
@@ -66,61 +68,35 @@ module _ (from to : List ℕ) (count : ℕ) (needs : List Need) (e : pairs_of fr
       ∙ ap different_pairs (map-map swap ends needs))
       ∙ different-seconds (λ (n : Need). n.dependency) (λ (n : Need). n.dependant) x needs
 
--- Heads that were cleared.
-no-head : (size : ℕ) {heads : List ℕ} → heads ≡ replicate size 0 → (x : ℕ) → get_or heads x 0 ≡ 0
-no-head size e = rw e (zeros-replicate size).zeros
+-- The neighbours of an item on its chain, once the pairs are chained from cleared heads on.
+module _ {WORDS NEEDS : ℕ} (needs : List Need) (g : Graph WORDS NEEDS) (s : Shown (reverse needs) g) where
+  most : g.pairs.count ≤ NEEDS
+  most = g.pairs.within
 
-pub linkable : {from heads next : List ℕ} {count : ℕ} (size : ℕ) → heads ≡ replicate size 0 → count ≤ need_limit → count ≤ length from → count ≤ length next
-    → ((i : ℕ) → i < count → get_or from i 0 < size) → Linkable from count heads next
-linkable {from} size e most from-size next-size below =
-    record {
-      from-size = from-size;
-      next-size = next-size;
-      most = omega arith;
-      below = rw (e, length-replicate) below;
-      empty = λ i h. no-head size e (get_or from i 0);
-    }
+  same : pairs_of g.pairs.from g.pairs.to g.pairs.count ≡ different_pairs (map ends needs)
+  same = s.pairs ∙ ap (λ (l : List Need). different_pairs (map ends l)) (reverse-reverse needs)
 
--- The chains of one side, from cleared heads on.
-module _ {from to next₀ heads₀ heads next : List ℕ} {count : ℕ} (n : ℕ) (e : heads₀ ≡ replicate n 0) (l : Linked 0 from count heads₀ next₀ heads next)
-    (heads-size : length heads ≡ length heads₀) (from-size : count ≤ length from) (to-size : count ≤ length to) (next-size : count ≤ length next) where
-  chains : count ≤ need_limit → (neighbours : ℕ → List ℕ) → ((i : ℕ) → i < count → get_or to i 0 < n)
-      → ((x : ℕ) → seconds_of x (pairs_of from to count) ≡ neighbours x) → Chained neighbours n to heads next
-  chains most neighbours below seconds =
-      let size : length heads₀ ≡ n = ap (λ (k : List ℕ). length k) e ∙ length-replicate {A = ℕ} n 0 in
-      record {
-        count = count;
-        most = most;
-        ends-size = to-size;
-        next-size = next-size;
-        heads-size = omega arith;
-        ends-below = below;
-        heads-most = λ x h. (l.heads-onward x (no-head n e x)).1;
-        next-onward = λ j h. l.next-onward j (omega arith) h;
-        along =
-            λ x h. targets-seconds from to heads₀ next₀ heads next count from-size to-size l x (omega arith) (no-head n e x) ∙ seconds x;
-      }
+  pub dependencies-linked : {next₀ : List ℕ} (old new : Chains item_limit NEEDS)
+      → Linked 0 (take g.pairs.count g.pairs.from) (length (take g.pairs.count g.pairs.from)) (replicate g.nodes 0 ++ drop g.nodes old.heads) next₀ new.heads new.next
+      → (x : ℕ) → x < g.nodes → neighbours_at g.pairs.to new x ≡ dependencies_of needs x
+  unfolding nodes_along
+  dependencies-linked old new l x below =
+      places-linked _ _ _ _ _ _ _ (omega (arith, g.pairs.sizes, most)) (omega (arith, g.pairs.sizes, most)) (omega (arith, new.sizes, most)) l x
+      (omega (arith, new.sizes, g.fits.numbers, g.fits.most)) (head-cleared g.nodes old.heads x below)
+      ∙ seconds-out g.pairs.from g.pairs.to g.pairs.count needs same x
 
--- Both sides.
-module _ {from to : List ℕ} {count : ℕ} {heads₀ next₀ heads₁ next₁ : List ℕ} (r : LinkRoom from to count heads₀ next₀ heads₁ next₁)
-    {no-out no-in heads-out next-out heads-in next-in : List ℕ} (none_out : no-out ≡ replicate (length heads₀) 0)
-    (out : Linked 0 from count no-out next₀ heads-out next-out) (heads-out-size : length heads-out ≡ length no-out)
-    (next-out-size : length next-out ≡ length next₀) (none_in : no-in ≡ replicate (length heads₁) 0)
-    (into : Linked 0 to count no-in next₁ heads-in next-in) (heads-in-size : length heads-in ≡ length no-in)
-    (next-in-size : length next-in ≡ length next₁) where
-  pub links-made : LinksMade (length heads₀) from to count next₀ next₁ heads-out next-out heads-in next-in
-  links-made =
-      record {
-        neighbours =
-            λ needs e.
-            record {
-              dependencies =
-                  chains (length heads₀) none_out out heads-out-size r.from-size r.to-size (omega (arith, r.next-out-size)) r.most (dependencies_of needs)
-                  r.to_below (seconds-out from to count needs e);
-              dependants =
-                  chains (length heads₀) (none_in ∙ ap (λ (k : ℕ). replicate k 0) r.heads-size) into heads-in-size r.to-size r.from-size
-                  (omega (arith, r.next-in-size)) r.most (dependants_of needs) r.from-below (seconds-in from to count needs e);
-            };
-        out-rest = out.next-rest;
-        in_rest = into.next-rest;
-      }
+  pub dependants-linked : {next₀ : List ℕ} (old new : Chains item_limit NEEDS)
+      → Linked 0 (take g.pairs.count g.pairs.to) (length (take g.pairs.count g.pairs.to)) (replicate g.nodes 0 ++ drop g.nodes old.heads) next₀ new.heads new.next
+      → (x : ℕ) → x < g.nodes → neighbours_at g.pairs.from new x ≡ dependants_of needs x
+  unfolding nodes_along
+  dependants-linked old new l x below =
+      places-linked _ _ _ _ _ _ _ (omega (arith, g.pairs.sizes, most)) (omega (arith, g.pairs.sizes, most)) (omega (arith, new.sizes, most)) l x
+      (omega (arith, new.sizes, g.fits.numbers, g.fits.most)) (head-cleared g.nodes old.heads x below)
+      ∙ seconds-in g.pairs.from g.pairs.to g.pairs.count needs same x
+
+-- Chains whose first heads were cleared have no places.
+pub none-linked : {NEEDS n : ℕ} (ends : List ℕ) (old new : Chains item_limit NEEDS) → new.heads ≡ replicate n 0 ++ drop n old.heads
+    → (x : ℕ) → x < n → neighbours_at ends new x ≡ []
+unfolding nodes_along
+none-linked {n = n} ends old new e x below =
+    ap (map (λ i. get_or ends i 0)) (places-none new.next (get_or new.heads x 0) (rw e (head-cleared n old.heads x below)))

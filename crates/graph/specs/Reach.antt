@@ -67,10 +67,10 @@ pub record Transposed (n : ℕ) (reach into : List ℕ) : Type 0 where
   pub reach-below : (a b : ℕ) → a < n → n ≤ b → b < 64 → cell 1 reach a b ≡ false
   pub into-below : (a b : ℕ) → a < n → n ≤ b → b < 64 → cell 1 into a b ≡ false
 
--- What adding the need x to y asks for. Where rows have more words, `into` is working space.
+-- What adding the need x to y asks for. `into` has rows only where they have one word.
 pub record AddRoom (words n x y : ℕ) (reach into paths : List ℕ) : Type 0 where
   pub way : WayRoom words n x y reach paths
-  pub into-rows : Rows words n into
+  pub into-rows : words ≡ 1 → Rows words n into
   pub transposed : words ≡ 1 → Transposed n reach into
 
 -- What it gives: where the matrices showed a graph, they show that graph with the need.

@@ -1,10 +1,20 @@
 -- Bit matrices: rows of `words` words of 64 bits, one behind the other. Assumes nothing.
-use Rattle.std.specs.Prelude.{ℕ, ◌+◌, ◌*◌, ◌^◌, ◌≤◌, ◌<◌, ◌≡◌, Bool, ◌&&◌, ◌||◌, List, ◌++◌, eqb, length, drop, replicate}
+use Rattle.std.specs.Prelude.{ℕ, ◌+◌, ◌*◌, ◌/◌, ◌^◌, ◌≤◌, ◌<◌, ◌≡◌, Bool, ◌&&◌, ◌||◌, List, ◌++◌, eqb, length, drop, replicate}
 use Rattle.lists.specs.Bits.{bit_at}
 
 -- the most words of a row: a bit for each item that there can be
 abbrev pub row_words : ℕ
 row_words = 4
+
+-- the words of a row for n items
+abbrev pub words_for : ℕ → ℕ
+words_for n = (n + 63) / 64
+
+-- Rows of so many words for n items fit the words of a matrix, so that places in them fit 32 bits.
+pub record Fits (WORDS words n : ℕ) : Type 0 where
+  pub numbers : n ≤ 64 * words
+  pub most : words ≤ row_words
+  pub size : n * words ≤ WORDS
 
 -- What n rows for numbers below n ask for: that they are long enough, that they are so short that places in them fit 32 bits, and that they are there.
 pub record Rows (words n : ℕ) (matrix : List ℕ) : Type 0 where

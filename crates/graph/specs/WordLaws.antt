@@ -1,20 +1,21 @@
 -- Laws of bit matrices with rows of one word. Assumes nothing.
-use Rattle.std.specs.Prelude.{ℕ, ◌+◌, ◌*◌, ◌-◌, ◌/◌, ◌%◌, ◌^◌, ◌≤◌, ◌<◌, ◌≡◌, refl, Bool, true, false, List, ltb, length, get_or, set}
+use Rattle.std.specs.Prelude.{ℕ, ◌+◌, ◌*◌, ◌-◌, ◌/◌, ◌%◌, ◌^◌, ◌≤◌, ◌<◌, ◌≡◌, refl, Bool, true, false, Some, List, ltb, length, get_or, set, replicate}
 use Rattle.std.proofs.Common.{arith, one-mul, sym, ◌∙◌, shl_exact, eqb-true, eq-eqb, ne_eqb, ltb-true, ltb-false}
 use Rattle.std.proofs.Math.Path.{ap, ap₂}
 use Rattle.std.proofs.Math.Bool.{not, ◌&&◌, ◌||◌, or_assoc, or_comm, or-false, and_assoc, and_comm, and-true, and-false, and-not_self}
 use Rattle.std.proofs.Math.Dec.{eqb}
 use Rattle.std.specs.Int.Bits.{bit_and, bit_or}
 use Rattle.std.proofs.lemmas.Nat.{and_le_l}
+use lib.Count.{count_trailing_zeros}
 use Rattle.laws.specs.Lists.{Tested, holds, fails, tested, both, false≢true}
 use Rattle.lists.specs.Bits.{bit, bit_at}
-use Rattle.lists.specs.ArrayLaws.{after-set}
-use Rattle.lists.specs.BitLaws.{bit-or, bit-none, bit-power, bit-less, bit-with, bit-without}
+use Rattle.lists.specs.ArrayLaws.{after-set, zeros-replicate}
+use Rattle.lists.specs.BitLaws.{bit-or, bit-none, bit-power, bit-trailing, bit-less, bit-with, bit-without, row-empty}
 use Rattle.graph.specs.Rows.{cleared, cell, RowJoined}
 use Rattle.graph.specs.RowLaws.{column, rows-cleared}
 use Rattle.graph.specs.ReachLaws.{own-set}
 use Rattle.graph.specs.Reach.{joins, onward, enters_own, enters_others, enters_either, WayEntered, Transposed, AddRoom}
-use Rattle.graph.specs.Words.{SetRoom, SetJoined}
+use Rattle.graph.specs.Words.{Taken, SetRoom, SetJoined}
 
 -- Tests.
 joined-there : (o w : Bool) → (o || ((true && not true) && w) || w) ≡ (o || ((true && not (false && true)) && w))
@@ -55,15 +56,17 @@ word-joined matrix a w within =
           (λ d. rw (ne_eqb c a d, or-false));
     }
 
--- A set without a number that it holds, as the code computes it, is a lesser word.
-pub set-without : (rows i : ℕ) → rows < 2 ^ 64 → i < 64 → bit rows i ≡ true
-    → (bit_and rows (2 ^ 64 - 1 - 1 * 2 ^ i % 2 ^ 64) < rows)
-    × ((j : ℕ) → j < 64 → bit (bit_and rows (2 ^ 64 - 1 - 1 * 2 ^ i % 2 ^ 64)) j ≡ (not (eqb j i) && bit rows j))
-set-without rows i most h held =
-    let rest = bit_and rows (2 ^ 64 - 1 - 1 * 2 ^ i % 2 ^ 64) in (
-      bit-less 64 rest rows i (omega (arith, and_le_l rows (2 ^ 64 - 1 - 1 * 2 ^ i % 2 ^ 64))) most h held (λ j g. bit-without rows i j h g),
-      λ j g. bit-without rows i j h g,
-    )
+-- A set that is not empty, and the word of all but its least number, as the code computes it: a lesser one.
+pub least-taken : (set : ℕ) → 0 < set → set < 2 ^ 64
+    → let i = count_trailing_zeros 64 set in
+    let left = bit_and set (2 ^ 64 - 1 - 1 * 2 ^ i % 2 ^ 64) in
+    Taken set (Some i) left × (left < set)
+least-taken set h most =
+    let i = count_trailing_zeros 64 set in
+    let left = bit_and set (2 ^ 64 - 1 - 1 * 2 ^ i % 2 ^ 64) in
+    let least = bit-trailing 64 set h most in
+    let bits : (j : ℕ) → j < 64 → bit left j ≡ (not (eqb j i) && bit set j) = λ j g. bit-without set i j least.0 g in
+    ((least.0, least.1, bits), bit-less 64 left set i (omega (arith, and_le_l set (2 ^ 64 - 1 - 1 * 2 ^ i % 2 ^ 64))) most least.0 least.1 bits)
 
 -- In the midst of joining the rows of a set with a word: those in `left` are still to be joined.
 pub record JoiningSet (rows left : ℕ) (set : ℕ → Bool) (old new : List ℕ) : Type 0 where
@@ -107,13 +110,16 @@ below-room {n} rows matrix size none a h e = go (tested (ltb a n))
     go (fails t) = absurd (false≢true (sym (none a (ltb-false a n t) h) ∙ e))
 
 -- Cleared matrices are the transpose of each other.
-pub transposed-cleared : (n : ℕ) (reach into : List ℕ) → n ≤ 64 → Transposed n (cleared (n * 1) reach) (cleared (n * 1) into)
-transposed-cleared n reach into most =
+pub transposed-cleared : (n : ℕ) (reach : List ℕ) → n ≤ 64 → Transposed n (cleared (n * 1) reach) (replicate 64 0)
+transposed-cleared n reach most =
     record {
-      cells = λ a b h g. rows-cleared 1 n into b a g (omega arith) ∙ sym (rows-cleared 1 n reach a b h (omega arith));
+      cells = λ a b h g. none b a ∙ sym (rows-cleared 1 n reach a b h (omega arith));
       reach-below = λ a b h g f. rows-cleared 1 n reach a b h f;
-      into-below = λ a b h g f. rows-cleared 1 n into a b h f;
+      into-below = λ a b h g f. none a b;
     }
+  where
+    none : (a b : ℕ) → cell 1 (replicate 64 0) a b ≡ false
+    none a b = row-empty (zeros-replicate 64) (a * (64 * 1) + b)
 
 -- The way from x to y: the words as the code computes them, and what entering them gives.
 module _ {n x y : ℕ} {reach into paths : List ℕ} (r : AddRoom 1 n x y reach into paths) where
@@ -133,7 +139,7 @@ module _ {n x y : ℕ} {reach into paths : List ℕ} (r : AddRoom 1 n x y reach 
   column-y = column r.way.reach-rows r.way.second
 
   few : n ≤ 64
-  few = r.into-rows.numbers
+  few = (r.into-rows refl).numbers
 
   before-bits : (a : ℕ) → a < 64 → bit before a ≡ (eqb a x || cell 1 into x a)
   before-bits a h = bit-with (get_or into x 0) x a column-x ∙ rw (cell-one into x a h)
@@ -166,7 +172,7 @@ module _ {n x y : ℕ} {reach into paths : List ℕ} (r : AddRoom 1 n x y reach 
   reach-room = below-room before reach (omega (arith, r.way.reach-rows.size)) none_before
 
   pub into-room : SetRoom beyond into
-  into-room = below-room beyond into (omega (arith, r.into-rows.size)) none-beyond
+  into-room = below-room beyond into (omega (arith, (r.into-rows refl).size)) none-beyond
 
   pub paths-room : SetRoom (bit_and before (2 ^ 64 - 1 - 1 * 2 ^ y % 2 ^ 64)) paths
   paths-room =

@@ -22,12 +22,7 @@ pub(crate) fn copy_row(matrix: &[u64], words: usize, a: usize, row: &mut [u64])
     requires words_in_bounds_2 { words ≤ length row.old }
     ensures { row.new ≡ take words (drop (a * words) matrix.now) ++ drop words row.old }
 {
-    let start = a * words;
-    let mut i = 0;
-    while i < words {
-        row[i] = matrix[start + i];
-        i += 1;
-    }
+    row[..words].copy_from_slice(&matrix[a * words..a * words + words]);
 }
 
 // Joins row a of a matrix with `row`.
@@ -37,22 +32,15 @@ pub(crate) fn join_row(matrix: &mut [u64], words: usize, a: usize, row: &[u64])
     ensures { RowJoined words a (bit_at row.now) matrix.old matrix.new }
 {
     let start = a * words;
-    let mut i = 0;
-    while i < words {
-        let at = start + i;
-        matrix[at] = matrix[at] | row[i];
-        i += 1;
+    for i in 0..words {
+        matrix[start + i] |= row[i];
     }
 }
 
 // Clears the first n words of a matrix.
-pub fn clear_words(matrix: &mut [u64], n: usize)
+pub(crate) fn clear_words(matrix: &mut [u64], n: usize)
     requires { n ≤ length matrix.old }
     ensures { matrix.new ≡ cleared n matrix.old }
 {
-    let mut i = 0;
-    while i < n {
-        matrix[i] = 0;
-        i += 1;
-    }
+    matrix[..n].fill(0);
 }

@@ -1,4 +1,5 @@
 // What each item reaches, and the record of paths (insert_transitives), as bit matrices with a row for each of n items.
+// The matrices are lent one by one: most functions work on one or two of them, and a struct would lend each of them all three.
 ghost use Rattle.std.specs.Prelude.{◌+◌, ◌*◌, ◌≤◌, ◌<◌, ◌≡◌, not, ◌&&◌, ◌||◌, eqb, length};
 ghost use Rattle.lists.specs.Bits.{bit_at};
 ghost use Rattle.graph.specs.Rows.{Place, cell, RowJoined};
@@ -60,10 +61,8 @@ fn enter_reaching(
     requires words_in_bounds { words ≤ length row.now }
     ensures { RowsEntered words n x y (bit_at row.now) reach.old paths.old reach.new paths.new }
 {
-    let mut a = 0;
-    while a < n {
+    for a in 0..n {
         enter_if_arrives(paths, reach, words, a, x, y, row);
-        a += 1;
     }
 }
 

@@ -1,24 +1,30 @@
 // Matrices with rows of one word, for 64 items or fewer: the way of a need entered into the rows that it changes.
-ghost use Rattle.std.specs.Prelude.{ℕ, ◌<◌, ◌≡◌, true, not, ◌&&◌, eqb, length};
+ghost use Rattle.std.specs.Prelude.{ℕ, ◌<◌, length};
+ghost use Rattle.std.specs.Iterator.{at_most};
 ghost use Rattle.lists.specs.Bits.{bit};
 ghost use Rattle.graph.specs.Rows.{RowJoined};
 ghost use Rattle.graph.specs.Reach.{AddRoom, WayEntered, Transposed};
-ghost use Rattle.graph.specs.Words.{SetRoom, SetJoined};
+ghost use Rattle.graph.specs.Words.{Taken, SetRoom, SetJoined};
 
-// The least number that a set holds. That it is the least, nothing relies on.
-fn some_of(set: u64) -> usize
-    requires { 0 < set }
-    ensures { (result < 64) × (bit set result ≡ true) }
-{
-    u64::trailing_zeros(set) as usize
-}
+// The numbers that a set has left. That the least comes first, nothing relies on.
+#[derive(Clone, Copy)]
+struct Numbers(u64);
 
-// The set without i, which it holds.
-fn without(set: u64, i: usize) -> u64
-    requires { (i < 64) × (bit set i ≡ true) }
-    ensures { (result < set) × ((j : ℕ) → j < 64 → bit result j ≡ (not (eqb j i) && bit set j)) }
-{
-    set & !(1u64 << i)
+impl Iterator for Numbers {
+    type Item = usize;
+
+    ghost next_gives = { λ s r t. Taken s.0 r t.0 };
+
+    ghost remaining = { λ s. at_most s.0 };
+
+    fn next(&mut self) -> Option<usize> {
+        if self.0 == 0 {
+            return None;
+        }
+        let i = u64::trailing_zeros(self.0) as usize;
+        self.0 &= !(1u64 << i);
+        Some(i)
+    }
 }
 
 // Joins row a of a matrix with a word.
@@ -26,7 +32,7 @@ fn join_word(matrix: &mut [u64], a: usize, word: u64)
     requires { a < length matrix.old }
     ensures { RowJoined 1 a (bit word) matrix.old matrix.new }
 {
-    matrix[a] = matrix[a] | word;
+    matrix[a] |= word;
 }
 
 // Joins each row that a set holds with a word.
@@ -34,10 +40,7 @@ fn join_set(matrix: &mut [u64], set: u64, word: u64)
     requires { SetRoom set matrix.old }
     ensures { SetJoined (bit set) (bit word) matrix.old matrix.new }
 {
-    let mut left = set;
-    while left != 0 {
-        let a = some_of(left);
-        left = without(left, a);
+    for a in Numbers(set) {
         join_word(matrix, a, word);
     }
 }

@@ -1,21 +1,24 @@
 -- Laws of the needs that a walk asks for: none that lie within ranges, so none of uninjected items of one module. Assumes nothing.
-use Rattle.std.specs.Prelude.{ℕ, ◌<◌, ◌≡◌, true, false, length}
+use Rattle.std.specs.Prelude.{ℕ, ◌<◌, ◌≡◌, true, length}
 use Rattle.std.proofs.Common.{arith, sym, ◌∙◌, length-append}
 use Rattle.std.proofs.Math.Path.{refl, ap, subst}
 use mathlib.Core.List.Memᴰ
-use mathlib.Core.List.{List, [], ◌∷◌, flat_map}
+use mathlib.Core.List.{List, [], ◌∷◌, map, flat_map}
 use Rattle.rules.specs.Lists.{is_empty, keep, elem, different, append_new}
 use Rattle.rules.specs.Project.{Project}
 use Rattle.rules.specs.Paths.{dependencies_of, dependants_of, DependsOn}
 use Rattle.rules.specs.Items.{is_injected, uninjected_rows, Range, ranges_from, range_of, Group, group_of, kind_of, numbers, same_range, starts, first_list, ItemState, item_state, opened, find_open, waiting, preceding, after_preceding, after_open, visit_item, item_start}
 use Rattle.laws.specs.Lists.{◌∈◌, false≢true, both, Tested, holds, fails, tested, ∈-self, keep-∈}
-use Rattle.laws.specs.Counting.{no_member}
+use Rattle.laws.specs.Counting.{no_member, below-nil}
 use Rattle.laws.specs.Splits.{size, WellFormed}
 use Rattle.laws.proofs.Splits.{true-in_range, range_of-holds, length-kinds, well_formed}
 use Rattle.laws.proofs.ItemWalk.{dependencies_of-∈, dependants_of-∈}
 use Rattle.split.specs.declared.Split.{Split}
-use Rattle.lists.specs.Pairs.{chain}
-use Rattle.group.specs.Walking.{GroupWalkable, with_needs, asked_group, AskedNeeds, Asked, all-needs, no-need}
+use Rattle.split.specs.Splits.{Splittable, Splits}
+use Rattle.lists.specs.ChainedLaws.{places-none}
+use Rattle.owners.specs.Owners.{need_at}
+use Rattle.layout.specs.Needs.{OwnNeeds}
+use Rattle.group.specs.Walking.{with_needs, asked_group, AskedNeeds, Asked, all-needs, no-need}
 
 -- A group whose needs each lie within one range is walked as it is without needs.
 module _ (g : Group) (formed : WellFormed g) (within : (x d : ℕ) → DependsOn g.needs x d → same_range g x d ≡ true) where
@@ -92,49 +95,41 @@ one-range p (m ∷ []) x d e h k =
 one-range p (m ∷ n ∷ modules) x d e h k = absurd (omega arith)
 
 -- The needs that a group's walk asks for, from where their chain begins.
-module _ {p : Project} {needs next-need : List ℕ} {first-need : ℕ} {modules rows kinds low high starts numbers : List ℕ} {s : Split}
-    (h : GroupWalkable p needs next-need first-need modules rows kinds low high starts numbers s) where
+module _ {p : Project} {modules section next : List ℕ} {entry : ℕ} {s : Split} (able : Splittable p modules) (d : Splits p modules s)
+    (o : OwnNeeds p modules section next entry) where
   abbrev group : Group
   group = group_of p modules
 
-  all_asked : asked_group p modules h.needs-own.own ≡ group
+  all_asked : asked_group p modules o.own ≡ group
   unfolding group_of
-  all_asked = ap (with_needs group) h.needs-own.among
+  all_asked = ap (with_needs group) o.among
 
   formed : WellFormed group
-  formed = well_formed p modules h.giving
+  formed = well_formed p modules able.giving
 
-  within : length modules ≡ 1 → s.uninjected ≡ s.count → (x d : ℕ) → DependsOn group.needs x d → same_range group x d ≡ true
-  within e f x d n =
-      let b = formed.ends-below x d n in
+  within : s.modules ≡ 1 → s.uninjected ≡ s.count → (x d : ℕ) → DependsOn group.needs x d → same_range group x d ≡ true
+  within e f x c n =
+      let b = formed.ends-below x c n in
       let all : length (flat_map (uninjected_rows p) modules) ≡ length group.kinds =
-      omega (arith, length-kinds p modules, h.numbered.splits.count-is, h.numbered.splits.uninjected-is) in
-      one-range p modules x d e (omega arith) (omega arith)
+      omega (arith, length-kinds p modules, d.count-is, d.uninjected-is) in
+      one-range p modules x c (omega (arith, d.modules-is)) (omega arith) (omega arith)
 
-  pub asked-needs : {head : ℕ} → Asked first-need (length modules) s head → AskedNeeds p modules needs next-need head
-  unfolding chain keep
+  pub asked-needs : {first : ℕ} → Asked entry s first → AskedNeeds p modules section next first
+  unfolding keep
   asked-needs all-needs =
       record {
-        own = h.needs-own.own;
-        along = h.needs-own.along;
-        few = h.needs-own.few;
+        own = o.own;
+        along = o.along;
+        few = o.few;
         formed = subst WellFormed (sym all_asked) formed;
         same = record { sizes = ap size all_asked; visits = λ t. ap (λ (g : Group). visit_item g t) all_asked };
         first = ap item_start all_asked;
       }
   asked-needs (no-need e f) =
+      let none = places-none next 0 refl in
       record {
         own = [];
-        along =
-            record {
-              count = 0;
-              most = omega arith;
-              within = omega arith;
-              next-size = omega arith;
-              next-onward = λ i b. absurd (omega arith);
-              head-most = omega arith;
-              along = refl;
-            };
+        along = record { most = omega arith; within = rw none below-nil; along = ap (map (need_at section)) none };
         few = omega arith;
         formed = formed-same group formed (within e f);
         same = record { sizes = refl; visits = visit-same group formed (within e f) };

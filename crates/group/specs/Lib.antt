@@ -1,8 +1,6 @@
 pub mod Walking
+pub mod Sorts
 pub mod AskedLaws
 pub mod WalkingLaws
-pub mod LengthLaws
-pub mod Sorts
-pub mod Written
 pub mod WriteLaws
 pub mod SortLaws

@@ -1,83 +1,76 @@
 -- Laws of the sort of one group. Assumes nothing.
-use Rattle.std.specs.Prelude.{ℕ, ◌<◌, ◌≡◌, length, get_or, take}
-use Rattle.std.proofs.Common.{arith, sym, ap, ◌∙◌, get_or-take}
-use Rattle.std.proofs.Math.Path.{subst}
-use mathlib.Core.List.{List}
-use Rattle.rules.specs.Project.{Project, item_limit}
-use Rattle.rules.specs.Walk.{Stop, run}
-use Rattle.rules.specs.Items.{numbering, group_of, ItemState, item_walk, item_start, order_of, sort_modules}
+use Rattle.std.specs.Prelude.{ℕ, ◌≤◌, ◌<◌, ◌≡◌, Ok, Err, length, get_or, take}
+use Rattle.std.proofs.Common.{arith, sym, ap, ◌∙◌, length-take-le}
+use Rattle.std.proofs.lemmas.List.{length-map}
+use mathlib.Core.List.{List, reverse}
+use Rattle.rules.specs.Project.{Project}
+use Rattle.rules.specs.Walk.{Stop, finished, run}
+use Rattle.rules.specs.Items.{group_of, ItemState, item_walk, item_start, placed_of, order_of, sort_modules}
 use Rattle.rules.specs.Calls.{item_list_limit}
-use Rattle.laws.specs.Orders.{get_or-∈}
+use Rattle.laws.specs.Counting.{Below}
 use Rattle.laws.proofs.Splits.{well_formed}
 use Rattle.laws.proofs.ItemWalk.{run-finished}
-use Rattle.split.specs.declared.Split.{Split}
-use Rattle.stmt.specs.declared.walk.Ending.{Ending as WalkEnding}
-use Rattle.stmt.specs.Walks.{Ran}
-use Rattle.group.specs.declared.Ending.{Ending}
-use Rattle.layout.specs.Numbers.{Numberable, ItemsNumbered}
-use Rattle.layout.specs.NumberLaws.{numbering-below}
-use Rattle.group.specs.Walking.{GroupWalkable}
-use Rattle.group.specs.WalkingLaws.{items-most, items-are}
-use Rattle.group.specs.Written.{Endable}
-use Rattle.group.specs.Sorts.{Sortable, Scratch, Sorted}
+use Rattle.lists.specs.Stacks.{stack}
+use Rattle.split.specs.Splits.{Splittable, Splits}
+use Rattle.layout.specs.NumberLaws.{row_below}
+use Rattle.walks.specs.declared.Stop.{Stop as Stopped}
+use Rattle.walks.specs.Runs.{Ran, has_finished, was_spent, list_was_full, was_crowded}
+use Rattle.stmt.specs.declared.walk.ItemWalk.{ItemWalk}
+use Rattle.stmt.specs.declared.walk.Crowded.{Crowded}
+use Rattle.group.specs.declared.Sort.{Sort}
+use Rattle.group.specs.WalkingLaws.{items-are}
+use Rattle.group.specs.Sorts.{rows_of, Given, Sorted}
+use Rattle.group.specs.WriteLaws.{at-number, many-rows, same-rows}
 
 -- the run of the modules' group
 abbrev run_of : Project → List ℕ → ℕ → ℕ → Stop ItemState
 run_of p modules left already = run (item_walk (group_of p modules)) item_list_limit left already (item_start (group_of p modules))
 
-module _ {p : Project} {modules items needs next-need : List ℕ} {first-need : ℕ} {next heads out : List ℕ} {«at» : ℕ}
-    (h : Sortable p modules items needs next-need first-need next heads out «at») where
-  pub numberable : {most many : ℕ} {rows kinds low high starts numbers seen weak reach paths moved placed from to next-out next-in heads-out heads-in «open» order : List ℕ}
-      → Scratch most many rows kinds low high starts numbers seen weak reach paths moved placed from to next-out next-in heads-out heads-in «open» order
-      → Numberable p modules items next heads rows kinds low high starts numbers
-  numberable a =
-      record {
-        accepted = h.accepted;
-        giving = h.giving;
-        chains = h.chains;
-        rows-size = a.rows-size;
-        kinds-size = a.kinds-size;
-        low-size = a.low-size;
-        high-size = a.high-size;
-        starts-size = a.starts-size;
-        numbers-size = a.numbers-size;
-      }
+-- what a finished walk leaves
+abbrev pub Placed : {WORDS NEEDS ENTRIES : ℕ} → Sort WORDS NEEDS ENTRIES → ItemWalk → ItemState → Type 0
+Placed s w t = stack s.arrays.order s.group.split.count ≡ placed_of t
 
-  -- the items numbered
-  module _ {rows kinds low high starts numbers : List ℕ} {s : Split} (i : ItemsNumbered p modules rows kinds low high starts numbers s) where
-    pub group-walkable : GroupWalkable p needs next-need first-need modules rows kinds low high starts numbers s
-    group-walkable = record { accepted = h.accepted; giving = h.giving; needs-own = h.needs-own; numbered = i }
+-- The walk of modules' items, and its order as rows.
+module _ {WORDS NEEDS ENTRIES : ℕ} {p : Project} {modules : List ℕ} (s : Sort WORDS NEEDS ENTRIES) (able : Splittable p modules)
+    (d : Splits p modules s.group.split) (left already : ℕ) where
+  -- where it has finished
+  module _ (t : ItemState) (made : ℕ) (e : run_of p modules left already ≡ finished t made) (shown : stack s.arrays.order s.group.split.count ≡ placed_of t) where
+    below : Below s.group.split.count (placed_of t)
+    below x m =
+        let b = (run-finished (group_of p modules) (well_formed p modules able.giving) item_list_limit left already e).walked.placed_below x m in
+        omega (arith, b, items-are able d)
 
-    row-byte : (x : ℕ) → x < s.count → get_or rows x 0 < item_limit
-    row-byte x g =
-        let row : get_or rows x 0 ≡ get_or (numbering p modules) x 0 =
-        sym (get_or-take s.count rows x 0 g) ∙ ap (λ (l : List ℕ). get_or l x 0) i.splits.numbered in
-        let below = numbering-below p modules (get_or (numbering p modules) x 0) (get_or-∈ (numbering p modules) x 0 (omega (arith, i.splits.count-is))) in
-        omega (arith, below, row, h.accepted.items-most)
+    room : s.group.split.count ≤ length s.arrays.order
+    room = omega (arith, s.group.split.counts, s.arrays.order_size)
 
-    -- the walk ended
-    module _ (left already : ℕ) {entries : ℕ} {order : List ℕ} {e : WalkEnding} (d : Ran entries (run_of p modules left already) s.count order e)
-        (rows-size : length rows ≡ item_limit) (order-size : length order ≡ item_limit) where
-      pub endable : Endable entries (run_of p modules left already) e order rows s.count out «at»
-      endable =
-          record {
-            ended = d;
-            rows-size = omega (arith, items-most group-walkable);
-            order-size = omega (arith, items-most group-walkable);
-            numbers-below =
-                λ t made f x m.
-                let below = (run-finished (group_of p modules) (well_formed p modules h.giving) item_list_limit left already f).walked.placed_below x m in
-                omega (arith, below, items-are group-walkable);
-            rows-below = row-byte;
-            room = omega (arith, h.room, i.splits.count-is);
-          }
+    pub given : Given (rows_of (take s.group.split.count s.group.split.rows) (reverse (placed_of t))) s
+    given =
+        record {
+          rows-are = sym (same-rows s.arrays.order (placed_of t) room shown below s.group.split.rows);
+          numbers-below = at-number s.arrays.order (placed_of t) room shown below;
+          rows-below = row_below able d;
+        }
 
-      -- and its order given as rows
-      pub sorts : {out' : List ℕ} {r : Ending}
-          → ((k : ℕ) (stop : Stop ItemState) → Endable k stop e order rows s.count out «at»
-          → Sorted k (order_of (take s.count rows) stop) «at» out out' r)
-          → Sorted entries (sort_modules p modules item_list_limit left already) «at» out out' r
-      unfolding sort_modules
-      sorts {out'} {r} w =
-          subst (λ (l : List ℕ). Sorted entries (order_of l (run_of p modules left already)) «at» out out' r) i.splits.numbered
-          (w entries (run_of p modules left already) endable)
+    pub counted : s.group.split.count ≡ length (rows_of (take s.group.split.count s.group.split.rows) (reverse (placed_of t)))
+    counted =
+        sym (many-rows s.arrays.order (placed_of t) room shown below (take s.group.split.count s.group.split.rows))
+
+  pub sorts : {w : ItemWalk} {made : ℕ} → Ran (run_of p modules left already) (Placed s) (λ (c : Crowded). ENTRIES < item_list_limit) (Ok (w, made))
+      → Sorted p modules (sort_modules p modules item_list_limit left already) s (Ok (s.group.split.count, made))
+  unfolding sort_modules order_of
+  sorts {made = made} (has_finished t e h) =
+      let same = ap (order_of _) e ∙ ap (λ (rows : List ℕ). finished (rows_of rows (reverse (placed_of t))) made) (sym d.numbered) in
+      has_finished (rows_of (take s.group.split.count s.group.split.rows) (reverse (placed_of t))) same (given t made e h, counted t made e h, d.count-is)
+
+  pub sort-stopped : {r : Stopped Crowded} → Ran (run_of p modules left already) (Placed s) (λ (c : Crowded). ENTRIES < item_list_limit) (Err r)
+      → Sorted p modules (sort_modules p modules item_list_limit left already) s (Err r)
+  unfolding sort_modules order_of
+  sort-stopped (was_spent e) = was_spent (ap (order_of _) e)
+  sort-stopped (list_was_full e) = list_was_full (ap (order_of _) e)
+  sort-stopped (was_crowded h) = was_crowded h
+
+-- The rows that are given are as many as there are items.
+pub given-count : {WORDS NEEDS ENTRIES : ℕ} {rows : List ℕ} (s : Sort WORDS NEEDS ENTRIES) → Given rows s → length rows ≡ s.group.split.count
+given-count s h =
+    ap length h.rows-are ∙ length-map (take s.group.split.count s.arrays.order) (λ x. get_or s.group.split.rows x 0)
+    ∙ length-take-le s.group.split.count s.arrays.order (omega (arith, s.group.split.counts, s.arrays.order_size))

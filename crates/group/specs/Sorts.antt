@@ -1,42 +1,40 @@
 -- What the sort of one group relies on and what it comes to. Assumes nothing.
-use Rattle.std.specs.Prelude.{ℕ, ◌+◌, ◌≤◌, ◌<◌, ◌≡◌, List, length}
-use Rattle.std.proofs.lemmas.List.Edits.{sets}
-use Rattle.rules.specs.Project.{Project, module_limit, item_limit}
-use Rattle.rules.specs.Walk.{Stop, finished, spent, full}
+use Rattle.std.specs.Prelude.{ℕ, ◌*◌, ◌≤◌, ◌<◌, ◌≡◌, List, map, length, get_or, take, Result}
+use Rattle.rules.specs.Project.{Project, item_limit}
+use Rattle.rules.specs.Walk.{Stop}
 use Rattle.rules.specs.Items.{numbering}
 use Rattle.rules.specs.Calls.{item_list_limit}
-use Rattle.laws.specs.Accepted.{Accepted}
-use Rattle.laws.specs.Splits.{Giving}
-use Rattle.split.specs.Splits.{ModuleChains}
+use Rattle.split.specs.declared.rows.ItemRows.{ItemRows}
+use Rattle.split.specs.Rows.{RowsShown}
+use Rattle.split.specs.Splits.{Splittable}
+use Rattle.graph.specs.Rows.{words_for}
 use Rattle.layout.specs.Needs.{OwnNeeds}
-use Rattle.group.specs.Walking.{WalkScratch}
-use Rattle.group.specs.declared.Ending.{Ending}
-use Rattle.group.specs.declared.Ending.TheVariants.{Finished, Spent, Full, Crowded}
+use Rattle.walks.specs.declared.Stop.{Stop as Stopped}
+use Rattle.walks.specs.Runs.{Ran}
+use Rattle.stmt.specs.declared.walk.Crowded.{Crowded}
+use Rattle.group.specs.declared.Sort.{Sort}
 
--- Modules that give items can be sorted: their rows and their needs are chained, and there is room for the rows from `at` on.
-pub record Sortable (p : Project) (modules items needs next-need : List ℕ) (first-need : ℕ) (next heads out : List ℕ) («at» : ℕ) : Type 0 where
-  pub accepted : Accepted p
-  pub giving : Giving p modules
-  pub chains : ModuleChains p modules items next heads
-  pub needs-own : OwnNeeds p modules needs next-need first-need
-  pub room : «at» + length (numbering p modules) ≤ length out
+-- Modules that give items can be sorted: their rows and their needs are chained, and there is room for as many rows of bits as the project has items,
+-- and for its needs.
+pub record Sortable (WORDS NEEDS : ℕ) (p : Project) (modules : List ℕ) (items : ItemRows) (needs next : List ℕ) (entry : ℕ) : Type 0 where
+  pub splittable : Splittable p modules
+  pub rows_shown : RowsShown p items
+  pub needs-own : OwnNeeds p modules needs next entry
+  pub rows-room : length p.items * words_for (length p.items) ≤ WORDS
+  pub needs-room : length p.needs ≤ NEEDS
 
--- The sizes of the arrays that a sort works on, whatever stands there, for a project with this many items and needs.
-pub record Scratch (most many : ℕ)
-    (rows kinds low high starts numbers seen weak reach paths moved placed from to next-out next-in heads-out heads-in «open» order : List ℕ) : Type 0 where
-  pub rows-size : length rows ≡ item_limit
-  pub kinds-size : length kinds ≡ item_limit
-  pub low-size : length low ≡ item_limit
-  pub high-size : length high ≡ item_limit
-  pub starts-size : length starts ≡ module_limit
-  pub numbers-size : length numbers ≡ item_limit
-  pub walk : WalkScratch most many seen weak reach paths moved placed from to next-out next-in heads-out heads-in «open» order
+-- the rows of some numbers
+abbrev pub rows_of : List ℕ → List ℕ → List ℕ
+rows_of rows numbers = map (λ x. get_or rows x 0) numbers
 
--- How a sort stops: as the definition does, or where its list's array has fewer entries than the limit, since the list may not fit it. Where it has
--- finished, the rows stand from `at` on; else nothing is written.
-pub data Sorted (entries : ℕ) (stop : Stop (List ℕ)) («at» : ℕ) (before after : List ℕ) : Ending → Type 0 where
-  has-finished : {made : ℕ} (rows : List ℕ) → stop ≡ finished rows made → after ≡ sets before «at» rows
-      → Sorted entries stop «at» before after (Finished («at» + length rows) made)
-  was-spent : {made : ℕ} → stop ≡ spent made → after ≡ before → Sorted entries stop «at» before after (Spent made)
-  was-full : {made : ℕ} → stop ≡ full made → after ≡ before → Sorted entries stop «at» before after (Full made)
-  was-crowded : entries < item_list_limit → after ≡ before → Sorted entries stop «at» before after Crowded
+-- The rows of the group's items, in the order of its walk; each fits a byte.
+pub record Given {WORDS NEEDS ENTRIES : ℕ} (rows : List ℕ) (s : Sort WORDS NEEDS ENTRIES) : Type 0 where
+  pub rows-are : rows ≡ rows_of s.group.split.rows (take s.group.split.count s.arrays.order)
+  pub numbers-below : (j : ℕ) → j < s.group.split.count → get_or s.arrays.order j 0 < s.group.split.count
+  pub rows-below : (x : ℕ) → x < s.group.split.count → get_or s.group.split.rows x 0 < item_limit
+
+-- How a sort of modules' items stops: as the definition does, or where its list has fewer entries than the limit, since the next visit may need more.
+-- Where it has finished, the rows are given, and counted.
+abbrev pub Sorted : {WORDS NEEDS ENTRIES : ℕ} → Project → List ℕ → Stop (List ℕ) → Sort WORDS NEEDS ENTRIES → Result (ℕ × ℕ) (Stopped Crowded) → Type 0
+Sorted {ENTRIES = ENTRIES} p modules stop s result =
+    Ran stop (λ n rows. Given rows s × (n ≡ length rows) × (n ≡ length (numbering p modules))) (λ c. ENTRIES < item_list_limit) result

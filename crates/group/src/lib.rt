@@ -1,85 +1,112 @@
 // The sort of one group's items (sort_stmts).
 #![tactic(auto)]
 
-ghost use Rattle.std.specs.Prelude.{◌-◌, ◌≤◌, length};
+ghost use Rattle.std.specs.Prelude.{ℕ, ◌+◌, ◌-◌, ◌*◌, ◌≤◌, ◌<◌, ◌≡◌, length};
 ghost use Rattle.rules.specs.Project.{Project};
-ghost use Rattle.rules.specs.Items.{sort_modules};
+ghost use Rattle.rules.specs.Walk.{run as runs};
+ghost use Rattle.rules.specs.Items.{Group as Input, item_walk, item_start, placed_of, sort_modules};
 ghost use Rattle.rules.specs.Calls.{item_list_limit};
-ghost use Rattle.group.specs.Sorts.{Sortable, Scratch, Sorted};
+ghost use Rattle.lists.specs.Stacks.{stack};
+ghost use Rattle.walks.specs.Runs.{Ran};
+ghost use Rattle.group.specs.Walking.{Asked, Walkable};
 
-mod walking;
-mod written;
+use layout::Group;
+use lists::chains::Chain;
+use split::rows::ItemRows;
+use stmt::arrays::Arrays;
+use stmt::walk::{Crowded, ItemWalk, run};
+use walks::Stop;
 
-use layout::numbers;
-
-// How a sort stopped, with the end of the rows written and the visits made; or that the list may not fit its array.
-#[derive(Clone, Copy)]
-pub enum Ending {
-    Finished(usize, u32),
-    Spent(u32),
-    Full(u32),
-    Crowded,
+// A group laid out, and the arrays of its walk.
+#[derive(Drop)]
+pub struct Sort<const WORDS: usize, const NEEDS: usize, const ENTRIES: usize> {
+    pub group: Group<WORDS, NEEDS>,
+    pub arrays: Arrays<WORDS, ENTRIES>,
 }
 
-// Sorts the kept items of a group's modules, whose needs stand along the chain from `first_need`, `already` being the visits made before: the walk's
-// outcome, and where it has finished, the rows from `at` on, in their order. All other slices are working space, whose contents at the end are left
-// free.
-pub fn sort_stmts(
-    items: &[u8],
-    needs: &[u8],
-    next_need: &[u16],
-    first_need: u16,
-    next: &[u16],
-    heads: &[u16],
-    modules: &[u8],
-    rows: &mut [u16],
-    kinds: &mut [u8],
-    low: &mut [u16],
-    high: &mut [u16],
-    starts: &mut [u16],
-    numbers: &mut [u16],
-    seen: &mut [u64],
-    weak: &mut [u64],
-    reach: &mut [u64],
-    paths: &mut [u64],
-    moved: &mut [u64],
-    placed: &mut [u64],
-    from: &mut [u16],
-    to: &mut [u16],
-    next_out: &mut [u16],
-    next_in: &mut [u16],
-    heads_out: &mut [u16],
-    heads_in: &mut [u16],
-    open: &mut [u16],
-    order: &mut [u16],
-    list: &mut [u16],
-    out: &mut [u8],
-    at: usize,
-    allowance: u32,
-    already: u32,
-) -> Ending
-    requires already_le_allowance { already ≤ allowance }
-    requires sortable { (p : Project)
-        × Sortable p modules.now items.now needs.now next_need.now first_need next.now heads.now out.old «at»
-        × Scratch (length p.items) (length p.needs) rows.old kinds.old low.old high.old starts.old numbers.old seen.old
-        weak.old reach.old paths.old moved.old placed.old from.old to.old next_out.old next_in.old heads_out.old
-        heads_in.old «open».old order.old }
-    ensures { (p : Project) → Sortable p modules.now items.now needs.now
-        next_need.now first_need next.now heads.now out.old «at»
-        → Scratch (length p.items) (length p.needs) rows.old kinds.old low.old high.old
-        starts.old numbers.old seen.old weak.old reach.old paths.old
-        moved.old placed.old from.old to.old next_out.old next_in.old
-        heads_out.old heads_in.old «open».old order.old
-        → Sorted (length list.old) (sort_modules p modules.now item_list_limit (allowance - already) already) «at»
-        out.old out.new result }
-{
-    let s = numbers::number_items(
-        items, next, heads, modules, rows, kinds, low, high, starts, numbers,
-    );
-    let e = walking::walk_group(
-        needs, next_need, first_need, modules, s, rows, kinds, low, high, starts, numbers, seen,
-        weak, reach, paths, moved, placed, from, to, next_out, next_in, heads_out, heads_in, open,
-        order, list, allowance, already,
-    );
-    written::end_sort(e, order, rows, s.count, out, at)
+impl<const WORDS: usize, const NEEDS: usize, const ENTRIES: usize> Sort<WORDS, NEEDS, ENTRIES> {
+    ghost use Rattle.std.specs.Prelude.{List};
+    ghost use Rattle.std.proofs.lemmas.List.Edits.{sets};
+    ghost use Rattle.group.specs.Sorts.{Sortable, Given, Sorted};
+
+    // No items.
+    pub fn new() -> Self
+        requires bounds { (WORDS ≤ 65536) × (NEEDS < 65536) }
+    {
+        Self {
+            group: Group::new(),
+            arrays: Arrays::new(),
+        }
+    }
+
+    // The chain of the needs to lay out: none for uninjected items of one module, whose walk asks for no need.
+    fn asked<'a>(&self, own: Chain<'a>) -> Chain<'a>
+        ensures next { result.next.now ≡ own.entry.next.now }
+        ensures entry { Asked own.entry.entry self.now.group.split result.entry }
+    {
+        let split = &self.group.split;
+        if split.modules == 1 && split.uninjected == split.count {
+            return Chain {
+                next: own.next,
+                entry: 0,
+            };
+        }
+        own
+    }
+
+    // Walks the items of the group from its first list on, as the definition's run does, unless the list may not fit its array. The group that is laid out
+    // may have fewer needs than the one that is walked, where every visit is the same. Where it has finished, `order` holds the numbers in their order;
+    // else it is left free, and so is the rest of the state.
+    fn walk_items(&mut self, allowance: u32, already: u32) -> Result<(ItemWalk, u32), Stop<Crowded>>
+        requires already_le_allowance { already ≤ allowance }
+        requires walkable { (g : Input) × (walked : Input) × Walkable g walked self.old.group }
+        ensures ran { (g walked : Input) → Walkable g walked self.old.group
+            → Ran (runs (item_walk walked) item_list_limit (allowance - already) already (item_start walked))
+            (λ w t. stack self.new.arrays.order self.old.group.split.count ≡ placed_of t) (λ c. ENTRIES < item_list_limit) result }
+        ensures group { self.new.group ≡ self.old.group }
+    {
+        if ENTRIES < self.group.split.first_len() {
+            return Err(Stop::Crowded(Crowded));
+        }
+        let start = ItemWalk::new(&self.group, &mut self.arrays);
+        run(&self.group, &mut self.arrays, start, allowance, already)
+    }
+
+    // Sorts the kept items of a group's modules, whose needs stand along the chain `own`, `already` being the visits made before: the walk's outcome, and
+    // where it has finished, how many items there are. What the arrays hold beyond the rows in their order is left free.
+    pub fn sort_stmts(
+        &mut self,
+        items: &ItemRows,
+        needs: &[u8],
+        own: Chain<'_>,
+        modules: &[u8],
+        allowance: u32,
+        already: u32,
+    ) -> Result<(usize, u32), Stop<Crowded>>
+        requires already_le_allowance { already ≤ allowance }
+        requires sortable { (p : Project) × Sortable WORDS NEEDS p modules.now items.now needs.now own.next.now own.entry }
+        ensures { (p : Project) → Sortable WORDS NEEDS p modules.now items.now needs.now own.entry.next.now own.entry.entry
+            → Sorted p modules.now (sort_modules p modules.now item_list_limit (allowance - already) already) self.new result }
+    {
+        self.group.number_items(items, modules);
+        let asked = self.asked(own);
+        self.group.lay_needs(needs, asked);
+        let (_, made) = self.walk_items(allowance, already)?;
+        Ok((self.group.split.count, made))
+    }
+
+    // Writes the rows in their order from `at` on; the place behind them.
+    pub fn write_rows(&self, out: &mut [u8], at: usize) -> usize
+        requires { (rows : List ℕ) × Given rows self.now × («at» + length rows ≤ length out.old) }
+        ensures written { (rows : List ℕ) → Given rows self.now → out.new ≡ sets out.old «at» rows }
+        ensures end { (rows : List ℕ) → Given rows self.now → result ≡ «at» + length rows }
+    {
+        let split = &self.group.split;
+        let mut end = at;
+        for &x in &self.arrays.order[..split.count] {
+            out[end] = split.rows[x as usize] as u8;
+            end += 1;
+        }
+        end
+    }
 }

@@ -1,26 +1,29 @@
 -- Laws of adding a group's needs. Assumes nothing.
-use Prim.Native.Nat.{ℕ, zero, suc, ◌*◌, ◌-◌, ◌≤◌, ◌<◌}
+use Prim.Native.Nat.{ℕ, suc, ◌*◌, ◌≤◌, ◌<◌}
 use Rattle.std.proofs.Common.{arith, sym, ◌∙◌}
-use Rattle.std.proofs.Math.Numerals.{sub-one}
-use Rattle.std.specs.Prelude.{◌≡◌, refl, Bool, true, false, ◌&&◌, length, get_or}
+use Rattle.std.specs.Prelude.{◌≡◌, refl, Bool, true, false, ◌&&◌, Some, None, length}
 use Rattle.std.proofs.Math.Path.{ap, subst}
 use Rattle.std.proofs.Math.Bool.{and-false}
 use mathlib.Core.List.{List, [], ◌∷◌, ◌++◌, map, reverse, reverse-cons, append_assoc, append-nil}
+use Rattle.std.proofs.lemmas.List.{length-map}
 use Rattle.rules.specs.Lists.{cons_if, keep, elem}
-use Rattle.rules.specs.Project.{Need, need_row, need_limit}
+use Rattle.rules.specs.Project.{Need}
 use Rattle.rules.specs.Items.{number_of, is_among, numbered}
 use Rattle.laws.specs.Lists.{Tested, holds, fails, tested}
 use Rattle.laws.specs.Orders.{and-true}
-use Rattle.lists.specs.Pairs.{Onward}
-use Rattle.lists.specs.ChainLaws.{chain-end, chain-step, left}
 use Rattle.project.specs.Decoded.{need_row_at, need_in}
 use Rattle.project.specs.declared.sections.NeedRow.{NeedRow}
+use Rattle.project.specs.declared.NodeId.{NodeId}
+use Rattle.lists.specs.Chained.{places}
+use Rattle.lists.specs.ChainedLaws.{places-none}
 use Rattle.owners.specs.Owners.{need_at, NeedsAlong}
-use Rattle.graph.specs.Graph.{Matrices, Shows, EdgeRoom, EdgeAdded}
+use Rattle.split.specs.declared.Split.{Split}
+use Rattle.graph.specs.declared.Graph.{Graph}
+use Rattle.graph.specs.Rows.{words_for}
+use Rattle.graph.specs.Graph.{Shows as GraphShows, matrices_of, EdgeRoom, EdgeAdded}
 use Rattle.graph.specs.GraphLaws.{edge-room}
-use Rattle.layout.specs.Numbers.{number_in}
-use Rattle.layout.specs.NumberLaws.{NumberedAs, is-in, is-out, numbered-as}
-use Rattle.layout.specs.Needs.{needs_among, add_need, add_needs, NeedRoom, NeedsRoom, needs_from, Adding}
+use Rattle.layout.specs.Numbers.{NumberedAs, is-in, is-out}
+use Rattle.layout.specs.Needs.{needs_among, add_need, add_needs, Shows, NeedRoom, Adding}
 
 -- A need is added where both ends have numbers, and else not.
 among-fails : (rows : List ℕ) (n : Need) → is_among rows n ≡ false → (graph : List Need) → add_need rows graph n ≡ graph
@@ -39,44 +42,44 @@ most-one rows graph n = go (tested (is_among rows n))
     go (fails e) = rw (among-fails rows n e graph) (omega arith)
 
 -- What numbers that were found say of their rows.
-no_number : {rows : List ℕ} {row k : ℕ} → NumberedAs rows row k → k ≡ 0 → elem row rows ≡ false
-no_number (is-in e f h) z = absurd (omega arith)
-no_number (is-out e) z = e
+no_number : {rows : List ℕ} {row : ℕ} → NumberedAs rows row None → elem row rows ≡ false
+no_number (is-out e) = e
 
-a-number : {rows : List ℕ} {row k : ℕ} → NumberedAs rows row k → (k ≡ 0 → ⊥)
-    → (elem row rows ≡ true) × (number_of rows row ≡ k - 1) × (k - 1 < length rows)
-a-number (is-in {x = x} e f h) z = let less : suc x - 1 ≡ x = omega arith in (e, f ∙ sym less, omega arith)
-a-number (is-out e) z = absurd (z refl)
+a-number : {rows : List ℕ} {row : ℕ} {x : NodeId} → NumberedAs rows row (Some x) → (elem row rows ≡ true) × (number_of rows row ≡ x.0) × (x.0 < length rows)
+a-number (is-in e f h) = (e, f, h)
 
-module _ (rows : List ℕ) (a b weight : ℕ) (graph : List Need) where
-  pub no-dependant : number_in rows a ≡ 0 → add_need rows graph (need_row a b weight) ≡ graph
+module _ (rows : List ℕ) (need : NeedRow) (graph : List Need) where
+  pub no-dependant : NumberedAs rows need.dependant.0 None → add_need rows graph (need_in need) ≡ graph
   unfolding is_among
-  no-dependant e = among-fails rows (need_row a b weight) (rw (no_number (numbered-as rows a) e)) graph
+  no-dependant e = among-fails rows (need_in need) (rw (no_number e)) graph
 
-  pub no-dependency : number_in rows b ≡ 0 → add_need rows graph (need_row a b weight) ≡ graph
+  pub no-dependency : NumberedAs rows need.dependency.0 None → add_need rows graph (need_in need) ≡ graph
   unfolding is_among
   no-dependency e =
-      among-fails rows (need_row a b weight) (ap (λ (t : Bool). elem a rows && t) (no_number (numbered-as rows b) e) ∙ and-false (elem a rows)) graph
+      among-fails rows (need_in need) (ap (λ (t : Bool). elem need.dependant.0 rows && t) (no_number e) ∙ and-false (elem need.dependant.0 rows)) graph
 
   -- both ends have numbers
-  module _ {x y : ℕ} (first : x ≡ number_in rows a) (second : y ≡ number_in rows b) (some : x ≡ 0 → ⊥) (other : y ≡ 0 → ⊥) where
-    dependant : (elem a rows ≡ true) × (number_of rows a ≡ x - 1) × (x - 1 < length rows)
-    dependant = a-number (rw first (numbered-as rows a)) some
+  module _ {x y : NodeId} (first : NumberedAs rows need.dependant.0 (Some x)) (second : NumberedAs rows need.dependency.0 (Some y))
+      {WORDS NEEDS : ℕ} {s : Split} {g : Graph WORDS NEEDS} (size : length rows ≡ s.count) (room : NeedRoom graph s g) where
+    pub need-room : EdgeRoom g.words g.nodes x.0 y.0 (matrices_of g) g.pairs.from g.pairs.to g.pairs.count
+    need-room =
+        edge-room room.shows.shown x.0 y.0 (omega (arith, (a-number first).2, room.shows.nodes-are)) (omega (arith, (a-number second).2, room.shows.nodes-are))
+        (omega (arith, room.room, g.pairs.sizes)) (omega (arith, room.room, g.pairs.sizes))
 
-    dependency : (elem b rows ≡ true) × (number_of rows b ≡ y - 1) × (y - 1 < length rows)
-    dependency = a-number (rw second (numbered-as rows b)) other
-
-    module _ {words n count : ℕ} {m : Matrices} {from to : List ℕ} (size : length rows ≡ n) (room : NeedRoom words n graph m from to count) where
-      pub need-room : EdgeRoom words n (x - 1) (y - 1) m from to count
-      need-room =
-          edge-room room.shows (x - 1) (y - 1) (omega (arith, dependant.2)) (omega (arith, dependency.2)) room.from-room room.to_room
-
-      pub need-shown : {m' : Matrices} {from' to' : List ℕ} {count' : ℕ} → EdgeAdded words n (x - 1) (y - 1) weight m from to count m' from' to' count'
-          → Shows words n (add_need rows graph (need_row a b weight)) m' from' to' count'
-      unfolding is_among numbered
-      need-shown added =
-          rw (among-holds rows (need_row a b weight) (and-true dependant.0 dependency.0) graph, dependant.1, dependency.1)
-          (added.shows graph room.shows)
+    pub need-shown : {h : Graph WORDS NEEDS} → h.nodes ≡ g.nodes → h.words ≡ g.words
+        → EdgeAdded g.words g.nodes x.0 y.0 need.weight (matrices_of g) g.pairs.from g.pairs.to g.pairs.count (matrices_of h) h.pairs.from h.pairs.to h.pairs.count
+        → Shows (add_need rows graph (need_in need)) s h
+    unfolding is_among numbered
+    need-shown nodes words added =
+        let d = a-number first in
+        let e = a-number second in
+        record {
+          nodes-are = nodes ∙ room.shows.nodes-are;
+          words-are = words ∙ room.shows.words-are;
+          shown =
+              rw (nodes, words, among-holds rows (need_in need) (and-true d.0 e.0) graph, d.1, e.1)
+              (added.shows graph room.shows.shown);
+        }
 
 -- All that are added stand in front, the last foremost.
 adds-all : (rows : List ℕ) (graph needs : List Need) → add_needs rows graph needs ≡ reverse (needs_among rows needs) ++ graph
@@ -89,61 +92,44 @@ adds-all rows graph (n ∷ needs) = adds-all rows (add_need rows graph n) needs 
     go (holds e) = rw (among-holds rows n e graph, e, reverse-cons, append_assoc)
     go (fails e) = rw (among-fails rows n e graph, e)
 
-pub adds-some : (rows : List ℕ) (needs : List Need) → add_needs rows [] needs ≡ reverse (needs_among rows needs)
-adds-some rows needs = adds-all rows [] needs ∙ append-nil (reverse (needs_among rows needs))
+-- No needs.
+pub none-along : {section next : List ℕ} {entry : ℕ} {own : List Need} → NeedsAlong section next entry own → entry ≡ 0 → own ≡ []
+none-along {section} {next} {entry} a e = sym a.along ∙ ap (map (need_at section)) (places-none next entry e)
+
+pub shows_none : {WORDS NEEDS : ℕ} {s : Split} {g : Graph WORDS NEEDS} → g.nodes ≡ s.count → g.words ≡ words_for s.count → g.pairs.count ≡ 0
+    → GraphShows (words_for s.count) s.count [] (matrices_of g) g.pairs.from g.pairs.to 0 → Shows [] s g
+shows_none nodes words none shown = record { nodes-are = nodes; words-are = words; shown = rw (words, nodes, none) shown }
 
 -- Adding them along a chain, one after the other.
-module _ {section next : List ℕ} {head : ℕ} {needs : List Need} (a : NeedsAlong section next head needs) where
-  abbrev rest : ℕ → List Need
-  rest e = needs_from section next a.count e
-
-  rest-step : (e : ℕ) → 0 < e → e ≤ a.count → rest e ≡ need_at section (e - 1) ∷ rest (get_or next (e - 1) 0)
-  rest-step zero h g = absurd (omega arith)
-  rest-step (suc i) h g = rw sub-one (ap (map (need_at section)) (chain-step a.count 0 next (λ j _. a.next-onward j) i (omega arith) g))
-
-  -- the measure of the loop
-  pub needs-less : (e : ℕ) → 0 < e → e ≤ a.count → left need_limit (get_or next (e - 1) 0) < left need_limit e
-  unfolding left
-  needs-less zero h g = absurd (omega arith)
-  needs-less (suc i) h g = rw sub-one (go (get_or next i 0) (a.next-onward i g))
-    where
-      go : (e : ℕ) → Onward (suc i) a.count e → left need_limit e < left need_limit (suc i)
-      go zero o = omega (arith, a.most)
-      go (suc j) o = omega (arith, o.0 (omega arith), a.most)
-
-  pub adding-start : {rows : List ℕ} {words n : ℕ} {m : Matrices} {from to : List ℕ} → NeedsRoom words n needs m from to → Adding rows section next a.count head needs words n m from to 0
-  adding-start {rows} r =
+module _ {section next : List ℕ} {entry : ℕ} {needs : List Need} (a : NeedsAlong section next entry needs) {rows : List ℕ} {WORDS NEEDS : ℕ}
+    {s : Split} {g : Graph WORDS NEEDS} where
+  pub adding-start : Shows [] s g → Adding rows section (places next entry) needs s g
+  adding-start shows =
       record {
-        most = a.head-most;
         graph = [];
-        shows = r.shows;
-        left = omega (arith, ap length a.along);
+        shows = shows;
+        left = omega (arith, ap length a.along, length-map (places next entry) (need_at section));
         same = ap (add_needs rows []) a.along;
       }
 
-  module _ {rows : List ℕ} {e words n : ℕ} {m : Matrices} {from to : List ℕ} {count : ℕ} (s : Adding rows section next a.count e needs words n m from to count) where
-    module _ (h : 0 < e) where
-      one_less : length (rest e) ≡ suc (length (rest (get_or next (e - 1) 0)))
-      one_less = ap (λ (l : List Need). length l) (rest-step e h s.most)
+module _ {rows section left : List ℕ} {needs : List Need} {s : Split} {WORDS NEEDS : ℕ} {g : Graph WORDS NEEDS} (d : Adding rows section left needs s g) where
+  pub adding-room : {place : ℕ} {rest : List ℕ} → left ≡ place ∷ rest → length needs ≤ NEEDS → NeedRoom d.graph s g
+  adding-room e most = record { shows = d.shows; room = omega (arith, d.left, ap length e) }
 
-      pub adding-room : length needs ≤ length from → length needs ≤ length to → NeedRoom words n s.graph m from to count
-      adding-room f t = record { shows = s.shows; from-room = omega (arith, s.left, one_less); to_room = omega (arith, s.left, one_less) }
+  pub adding-next : {place : ℕ} {rest : List ℕ} {row : NeedRow} {h : Graph WORDS NEEDS} → left ≡ place ∷ rest → row ≡ need_row_at section (3 * place)
+      → Shows (add_need rows d.graph (need_in row)) s h → Adding rows section rest needs s h
+  unfolding add_needs need_at
+  adding-next {place} {h = h} e read shown =
+      record {
+        graph = add_need rows d.graph (need_at section place);
+        shows = subst (λ (r : NeedRow). Shows (add_need rows d.graph (need_in r)) s h) read shown;
+        left = omega (arith, d.left, ap length e, most-one rows d.graph (need_at section place));
+        same = rw e at d.same;
+      }
 
-      pub adding-next : {row : NeedRow} {m' : Matrices} {from' to' : List ℕ} {count' : ℕ} → row ≡ need_row_at section (3 * (e - 1))
-          → Shows words n (add_need rows s.graph (need_in row)) m' from' to' count'
-          → Adding rows section next a.count (get_or next (e - 1) 0) needs words n m' from' to' count'
-      unfolding add_needs need_at
-      adding-next {m' = m'} {from'} {to'} {count'} read shown =
-          record {
-            most = (a.next-onward (e - 1) (omega (arith, s.most))).1;
-            graph = add_need rows s.graph (need_at section (e - 1));
-            shows = subst (λ (r : NeedRow). Shows words n (add_need rows s.graph (need_in r)) m' from' to' count') read shown;
-            left = omega (arith, s.left, one_less, most-one rows s.graph (need_at section (e - 1)));
-            same = (rw (rest-step e h s.most) at s.same);
-          }
-
-    pub adding-end : e ≡ 0 → Shows words n (reverse (needs_among rows needs)) m from to count
-    unfolding add_needs
-    adding-end h =
-        let none : rest e ≡ [] = ap (λ (k : ℕ). rest k) h ∙ ap (map (need_at section)) (chain-end next a.count) in
-        rw (← adds-some rows needs, ← (rw none at s.same)) s.shows
+  pub adding-end : left ≡ [] → Shows (reverse (needs_among rows needs)) s g
+  unfolding add_needs
+  adding-end e = rw (← adds-some, ← (rw e at d.same)) d.shows
+    where
+      adds-some : add_needs rows [] needs ≡ reverse (needs_among rows needs)
+      adds-some = adds-all rows [] needs ∙ append-nil (reverse (needs_among rows needs))

@@ -1,20 +1,22 @@
 -- The needs of a group, added to its graph. A graph is a list of needs, the one added last in front, as in rules' Paths. Assumes nothing.
-use Rattle.std.specs.Prelude.{ℕ, ◌+◌, ◌≤◌, ◌<◌, ◌≡◌, List, [], ◌∷◌, map, length}
+use Rattle.std.specs.Prelude.{ℕ, ◌+◌, ◌*◌, ◌≤◌, ◌<◌, ◌≡◌, List, [], ◌∷◌, map, length}
 use Rattle.rules.specs.Lists.{cons_if, keep}
 use Rattle.rules.specs.Project.{Project, Need}
 use Rattle.rules.specs.Items.{is_among, numbered, numbering}
-use Rattle.lists.specs.Pairs.{chain}
 use Rattle.owners.specs.Owners.{need_at, NeedsAlong}
-use Rattle.graph.specs.Graph.{Matrices, Shows}
+use Rattle.split.specs.declared.Split.{Split}
+use Rattle.graph.specs.declared.Graph.{Graph}
+use Rattle.graph.specs.Rows.{words_for}
+use Rattle.graph.specs.Graph.{Shown}
 
 -- the needs whose two ends are among the rows, by their numbers
 abbrev pub needs_among : List ℕ → List Need → List Need
 needs_among rows needs = map (numbered rows) (keep (is_among rows) needs)
 
--- Along the chain from `head` stand needs of a project, and among them all whose two ends are rows of some modules.
-pub record OwnNeeds (p : Project) (modules section next : List ℕ) (head : ℕ) : Type 0 where
+-- Along the chain from an entry stand needs of a project, and among them all whose two ends are rows of some modules.
+pub record OwnNeeds (p : Project) (modules section next : List ℕ) (entry : ℕ) : Type 0 where
   pub own : List Need
-  pub along : NeedsAlong section next head own
+  pub along : NeedsAlong section next entry own
   pub few : length own ≤ length p.needs
   pub among : needs_among (numbering p modules) own ≡ needs_among (numbering p modules) p.needs
 
@@ -26,26 +28,25 @@ unfoldable pub add_needs : List ℕ → List Need → List Need → List Need
 add_needs rows graph [] = graph
 add_needs rows graph (n ∷ needs) = add_needs rows (add_need rows graph n) needs
 
--- The arrays show a graph, and there is room for one more pair.
-pub record NeedRoom (words n : ℕ) (graph : List Need) (m : Matrices) (from to : List ℕ) (count : ℕ) : Type 0 where
-  pub shows : Shows words n graph m from to count
-  pub from-room : length graph < length from
-  pub to_room : length graph < length to
+-- What laying out the needs of n items asks for.
+pub record LayRoom (WORDS NEEDS n : ℕ) (needs : List Need) : Type 0 where
+  pub rows : n * words_for n ≤ WORDS
+  pub places : length needs ≤ NEEDS
 
--- The arrays show the graph without needs, and there is room for some needs.
-pub record NeedsRoom (words n : ℕ) (needs : List Need) (m : Matrices) (from to : List ℕ) : Type 0 where
-  pub shows : Shows words n [] m from to 0
-  pub from-room : length needs ≤ length from
-  pub to_room : length needs ≤ length to
+-- A graph shows needs of a split's items.
+pub record Shows {WORDS NEEDS : ℕ} (needs : List Need) (s : Split) (g : Graph WORDS NEEDS) : Type 0 where
+  pub nodes-are : g.nodes ≡ s.count
+  pub words-are : g.words ≡ words_for s.count
+  pub shown : Shown needs g
 
--- the needs along the rest of a chain
-abbrev pub needs_from : List ℕ → List ℕ → ℕ → ℕ → List Need
-needs_from section next bound e = map (need_at section) (chain next bound e)
+-- And there is room for one more pair.
+pub record NeedRoom {WORDS NEEDS : ℕ} (needs : List Need) (s : Split) (g : Graph WORDS NEEDS) : Type 0 where
+  pub shows : Shows needs s g
+  pub room : length needs < NEEDS
 
--- In the midst of adding needs along a chain: those before entry e are added.
-pub record Adding (rows section next : List ℕ) (bound e : ℕ) (needs : List Need) (words n : ℕ) (m : Matrices) (from to : List ℕ) (count : ℕ) : Type 0 where
-  pub most : e ≤ bound
+-- In the midst of adding needs along a chain: those at the places that are left are not added.
+pub record Adding {WORDS NEEDS : ℕ} (rows section places : List ℕ) (needs : List Need) (s : Split) (g : Graph WORDS NEEDS) : Type 0 where
   pub graph : List Need
-  pub shows : Shows words n graph m from to count
-  pub left : length graph + length (needs_from section next bound e) ≤ length needs
-  pub same : add_needs rows graph (needs_from section next bound e) ≡ add_needs rows [] needs
+  pub shows : Shows graph s g
+  pub left : length graph + length places ≤ length needs
+  pub same : add_needs rows graph (map (need_at section) places) ≡ add_needs rows [] needs

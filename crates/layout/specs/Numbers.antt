@@ -1,51 +1,30 @@
 -- The numbers of a group's rows, found by row. Assumes nothing.
-use Rattle.std.specs.Prelude.{ℕ, suc, ◌≤◌, ◌<◌, ◌≡◌, true, false, List, [], ◌∷◌, length, get_or, take, set}
+use Rattle.std.specs.Prelude.{ℕ, suc, ◌<◌, ◌≡◌, true, false, Option, Some, None, List, [], ◌∷◌, length, get_or, take, set}
 use Rattle.rules.specs.Lists.{elem}
-use Rattle.rules.specs.Project.{Project, item_limit, module_limit}
+use Rattle.rules.specs.Project.{Project}
 use Rattle.rules.specs.Items.{number_of}
 use Rattle.laws.specs.Lists.{Once}
-use Rattle.laws.specs.Accepted.{Accepted}
-use Rattle.laws.specs.Splits.{Giving}
+use Rattle.project.specs.declared.NodeId.{NodeId}
 use Rattle.split.specs.declared.Split.{Split}
-use Rattle.split.specs.Splits.{ModuleChains, Splits}
+use Rattle.split.specs.Splits.{Splits}
+use Rattle.layout.specs.declared.Group.{Group}
 
--- The entries after rows were noted, of which the first has the number k: at each row, one more than its number.
+-- The entries after rows were noted, of which the first has the number k: at each row its number.
 unfoldable pub note_from : ℕ → List ℕ → List ℕ → List ℕ
 note_from k [] numbers = numbers
-note_from k (row ∷ rows) numbers = note_from (suc k) rows (set numbers row (suc k))
+note_from k (row ∷ rows) numbers = note_from (suc k) rows (set numbers row k)
 
--- one more than the number of a row, and 0 where it is not among the rows
-unfoldable pub number_in : List ℕ → ℕ → ℕ
-number_in rows row = elim (elem row rows) [ true ↦ suc (number_of rows row) | false ↦ 0 ]
+-- The number of a row, where it is among the rows.
+pub data NumberedAs (rows : List ℕ) (row : ℕ) : Option NodeId → Type 0 where
+  is-in : {x : NodeId} → elem row rows ≡ true → number_of rows row ≡ x.0 → x.0 < length rows → NumberedAs rows row (Some x)
+  is-out : elem row rows ≡ false → NumberedAs rows row None
 
--- What noting the first n rows asks for.
-pub record NumbersRoom (rows : List ℕ) (n : ℕ) (numbers : List ℕ) : Type 0 where
-  pub most : n ≤ item_limit
-  pub rows-size : n ≤ length rows
-  pub rows-below : (x : ℕ) → x < n → get_or rows x 0 < length numbers
+-- The numbers of a split's rows, each of which stands once, are noted. At other rows anything may stand.
+pub record Noted (s : Split) (numbers : List ℕ) : Type 0 where
+  pub once : Once (take s.count s.rows)
+  pub noted : (x : ℕ) → x < s.count → get_or numbers (get_or s.rows x 0) 0 ≡ x
 
--- The first n rows, each once, are noted. At other rows anything may stand.
-pub record Numbers (rows : List ℕ) (n : ℕ) (numbers : List ℕ) : Type 0 where
-  pub rows-size : n ≤ length rows
-  pub once : Once (take n rows)
-  pub size : item_limit ≤ length numbers
-  pub noted : (x : ℕ) → x < n → get_or numbers (get_or rows x 0) 0 ≡ suc x
-
--- What numbering the items of modules asks for: an accepted project's modules that give items, with the chains of their rows, and arrays of the
--- limits' sizes.
-pub record Numberable (p : Project) (modules items next heads rows kinds low high starts numbers : List ℕ) : Type 0 where
-  pub accepted : Accepted p
-  pub giving : Giving p modules
-  pub chains : ModuleChains p modules items next heads
-  pub rows-size : length rows ≡ item_limit
-  pub kinds-size : length kinds ≡ item_limit
-  pub low-size : length low ≡ item_limit
-  pub high-size : length high ≡ item_limit
-  pub starts-size : length starts ≡ module_limit
-  pub numbers-size : length numbers ≡ item_limit
-
--- What it gives: the split, with a start for each module, and the numbers of its rows.
-pub record ItemsNumbered (p : Project) (modules rows kinds low high starts numbers : List ℕ) (s : Split) : Type 0 where
-  pub splits : Splits p modules rows kinds low high starts s
-  pub noted : Numbers rows s.count numbers
-  pub starts-room : length modules ≤ length starts
+-- What numbering the items of modules gives: the split, and the numbers of its rows.
+pub record ItemsNumbered {WORDS NEEDS : ℕ} (p : Project) (modules : List ℕ) (g : Group WORDS NEEDS) : Type 0 where
+  pub splits : Splits p modules g.split
+  pub noted : Noted g.split g.numbers

@@ -1,11 +1,18 @@
 -- Laws of chains as src/chains.rt keeps them. Assumes nothing.
-use Rattle.std.specs.Prelude.{ℕ, zero, suc, ◌-◌, ◌≤◌, ◌<◌, ◌≡◌, length, get_or}
-use Rattle.std.proofs.Common.{arith}
+use Rattle.std.specs.Prelude.{ℕ, zero, suc, ◌-◌, ◌≤◌, ◌<◌, ◌≡◌, Option, Some, None, length, get_or, take, drop, replicate}
+use Rattle.std.specs.Iterator.{YieldsFirst}
+use Rattle.std.proofs.Common.{arith, ap, subst, ◌∙◌, length-take-le}
+use Rattle.std.proofs.Math.Seq.{take-take}
+use Rattle.std.proofs.Math.ListN.{get_or-append}
+use Rattle.std.proofs.lemmas.List.{length-replicate, get_or-replicate}
 use Rattle.std.proofs.Math.Numerals.{sub-one}
-use mathlib.Core.List.{List, [], ◌∷◌}
-use Rattle.laws.specs.Counting.{Below}
+use mathlib.Core.List.Memᴰ
+use mathlib.Core.List.{List, [], ◌∷◌, ◌++◌, map, zip_with}
+use Rattle.laws.specs.Counting.{Below, below-nil}
 use Rattle.lists.specs.Chained.{places, Leads}
-use Rattle.lists.specs.ChainLaws.{chain-end, chain-step, chain-below, chain-most}
+use Rattle.lists.specs.ChainLaws.{chain-end, chain-step, chain-below, chain-most, targets-more}
+use Rattle.lists.specs.Pairs.{pair, seconds_of, pairs_of, targets, Linked}
+use Rattle.lists.specs.PairLaws.{targets-seconds}
 
 -- None from the end on; else the first place, and those behind it.
 pub places-none : (next : List ℕ) (entry : ℕ) → entry ≡ 0 → places next entry ≡ []
@@ -22,3 +29,30 @@ places-below next entry l = chain-below (length next) next l.onward (length next
 
 pub places-most : (next : List ℕ) (entry : ℕ) → length (places next entry) ≤ length next
 places-most next entry = chain-most next (length next) entry
+
+-- What a call of an iterator leaves is below a bound if what was left before it was.
+pub below-left : {S : Type 0} (rest : S → List ℕ) {bound : ℕ} (s t : S) (r : Option ℕ) → YieldsFirst rest s r t → Below bound (rest s) → Below bound (rest t)
+below-left rest s t None h below = rw h.1 below-nil
+below-left rest {bound} s t (Some x) h below = λ y m. below y (rw h (Memᴰ.tail m))
+
+-- Heads of which the first n were cleared.
+pub head-cleared : (n : ℕ) (heads : List ℕ) (x : ℕ) → x < n → get_or (replicate n 0 ++ drop n heads) x 0 ≡ 0
+head-cleared n heads x h =
+    get_or-append (replicate n 0) (drop n heads) 0 x (rw length-replicate h) ∙ get_or-replicate n x 0 0 h
+
+-- Once n pairs are chained, what stands in `to` at the places of a key whose head was cleared are the second numbers of its pairs.
+module _ (from to heads₀ next₀ heads next : List ℕ) (n : ℕ) (from-size : n ≤ length from) (to-size : n ≤ length to) (next-size : n ≤ length next)
+    (k : Linked 0 (take n from) (length (take n from)) heads₀ next₀ heads next) where
+  keys-length : length (take n from) ≡ n
+  keys-length = length-take-le n from from-size
+
+  pub linked-all : Linked 0 (take n from) n heads₀ next₀ heads next
+  linked-all = subst (λ (c : ℕ). Linked 0 (take n from) c heads₀ next₀ heads next) keys-length k
+
+  pub places-linked : (a : ℕ) → a < length heads → get_or heads₀ a 0 ≡ 0
+      → map (λ i. get_or to i 0) (places next (get_or heads a 0)) ≡ seconds_of a (pairs_of from to n)
+  unfolding targets pairs_of
+  places-linked a within none =
+      targets-more n next (λ j. linked-all.next-onward j (omega arith)) to (length next) (get_or heads a 0) next-size (linked-all.heads-onward a none).1
+      ∙ targets-seconds (take n from) to heads₀ next₀ heads next n (omega (arith, keys-length)) to-size linked-all a within none
+      ∙ ap (λ (x : List ℕ). seconds_of a (zip_with pair x (take n to))) (take-take n n from (omega arith))

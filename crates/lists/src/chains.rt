@@ -1,5 +1,5 @@
 // Chains of places by key: an entry is one more than a place, and 0 stands for none.
-ghost use Rattle.std.specs.Prelude.{ℕ, ◌+◌, ◌≤◌, ◌<◌, ◌≡◌, ◌^◌, length, get_or, set};
+ghost use Rattle.std.specs.Prelude.{ℕ, ◌+◌, ◌≤◌, ◌<◌, ◌≡◌, ◌^◌, ◌++◌, length, get_or, set, drop, replicate};
 ghost use Rattle.std.specs.Iterator.{YieldsFirst, item_count};
 ghost use Rattle.lists.specs.Chained.{Ascends, Leads, places};
 ghost use Rattle.lists.specs.Pairs.{Linkable, Linked};
@@ -52,8 +52,7 @@ impl<const KEYS: usize, const PLACES: usize> Chains<KEYS, PLACES> {
     // Takes the chains of the first keys away.
     pub fn clear(&mut self, keys: usize)
         requires { keys ≤ KEYS }
-        ensures cleared { (k : ℕ) → k < keys → get_or self.new.heads k 0 ≡ 0 }
-        ensures others { (k : ℕ) → keys ≤ k → get_or self.new.heads k 0 ≡ get_or self.old.heads k 0 }
+        ensures heads { self.new.heads ≡ replicate keys 0 ++ drop keys self.old.heads }
         ensures next { self.new.next ≡ self.old.next }
     {
         self.heads[..keys].fill(0);

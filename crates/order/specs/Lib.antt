@@ -1,5 +1,8 @@
-pub mod Orders
+pub mod Turns
 pub mod TurnLaws
-pub mod Sizes
+pub mod Stops
+pub mod SortTurnLaws
 pub mod LoopLaws
+pub mod Orders
 pub mod ReadyLaws
+pub mod OrderLaws

@@ -1,23 +1,29 @@
 -- Laws of the sets that the turns rely on. Assumes nothing.
-use Rattle.std.specs.Prelude.{ℕ, suc, ◌+◌, ◌*◌, ◌≤◌, ◌<◌, ◌≡◌, refl, Bool, true, false, not, ◌&&◌, ◌||◌, List, [], ◌∷◌, eqb, length}
-use Rattle.std.proofs.Common.{arith, sym, ap, subst, ◌∙◌, eqb-true, eq-eqb}
+use Rattle.std.specs.Prelude.{ℕ, suc, ◌*◌, ◌≤◌, ◌≡◌, refl, Bool, not, ◌&&◌, ◌||◌, List, [], ◌∷◌, eqb, length}
+use Rattle.std.proofs.Common.{arith, mul-le-mul, sym, ap, subst, ◌∙◌, eqb-true, eq-eqb}
 use Rattle.rules.specs.Lists.{is_empty, cons_if, any, positions_from}
-use Rattle.rules.specs.Project.{Item, Import, Project, module_limit, item_limit, item_row, import_row, pair_rows}
+use Rattle.rules.specs.Project.{Item, Project, need_limit, item_row, import_row, pair_rows}
 use Rattle.rules.specs.Modules.{imports_of}
 use Rattle.rules.specs.Items.{is_kept, kept_rows_of}
 use Rattle.laws.specs.Lists.{◌∈◌, false≢true, Tested, holds, fails, tested, any-true, true-any, eqb-sym}
 use Rattle.laws.specs.Counting.{is_empty_false, ∈-is_empty}
 use Rattle.laws.specs.ModuleVisit.{imports_of-∈, ∈-imports_of}
 use Rattle.lists.specs.Bits.{bit}
-use Rattle.split.specs.SplitLaws.{kept_rows_of-positions}
-use Rattle.split.specs.RowChains.{RowsChainable, RowsChained}
-use Rattle.lists.specs.Arrays.{Zeros}
+use Rattle.split.specs.RowLaws.{kept_rows_of-positions}
+use Rattle.split.specs.Rows.{RowsShown}
+use Rattle.graph.specs.Rows.{words_for}
 use Rattle.owners.specs.KeyLaws.{items-fit, needs-fit}
-use Rattle.owners.specs.Owners.{Notable, OwnersShown, NeedsChainable, NeedsChained}
-use Rattle.order.specs.declared.Turn.{Turn}
+use Rattle.owners.specs.declared.Owners.{Owners}
+use Rattle.owners.specs.declared.NeedRows.{NeedRows}
+use Rattle.owners.specs.Owners.{Notable, OwnersShown}
+use Rattle.owners.specs.NeedRows.{NeedsChained}
 use Rattle.giving.specs.KeptLaws.{swap_and}
 use Rattle.giving.specs.Giving.{is_importer, is_giver}
-use Rattle.order.specs.Orders.{Orderable, Ready, Turning, Resuming, Owning, Sorting}
+use Rattle.order.specs.declared.turns.Turn.{Turn}
+use Rattle.order.specs.declared.turns.Turns.{Turns}
+use Rattle.order.specs.Turns.{Ready, Turning}
+use Rattle.order.specs.Stops.{Sized, Going, Sorting}
+use Rattle.order.specs.Orders.{Orderable}
 
 -- A module imports where a row names it as the importer.
 module _ (p : Project) (m : ℕ) where
@@ -55,127 +61,75 @@ any_same f g e (x ∷ l) = rw (e x, any_same f g e l)
 
 pub gives-shown : (p : Project) (m : ℕ) → any (is_giver m) p.items ≡ not (is_empty (kept_rows_of p m))
 gives-shown p m =
-    any_same (is_giver m) (λ (i : Item). is_kept i.kind && eqb i.in_module m) (λ (i : Item). swap_and (eqb m i.in_module) (is_kept i.kind) ∙ ap (λ (b : Bool). is_kept i.kind && b) (eqb-sym m i.in_module)) p.items
+    any_same (is_giver m) (λ (i : Item). is_kept i.kind && eqb i.in_module m)
+    (λ (i : Item). swap_and (eqb m i.in_module) (is_kept i.kind) ∙ ap (λ (b : Bool). is_kept i.kind && b) (eqb-sym m i.in_module)) p.items
     ∙ any-positions (λ (i : Item). is_kept i.kind && eqb i.in_module m) 0 p.items
     ∙ sym (ap (λ (l : List ℕ). not (is_empty l)) (kept_rows_of-positions p m))
-
--- Turns that are ready are so on another array of the same size.
-ready_on : {p : Project} {groups : List (List ℕ)} {items next heads bytes : List ℕ} {count importers givers : ℕ} {out now : List ℕ}
-    → Ready p groups items next heads bytes count importers givers out → length now ≡ length out
-    → Ready p groups items next heads bytes count importers givers now
-ready_on r size =
-    record {
-      accepted = r.accepted;
-      chains = r.chains;
-      bytes-are = r.bytes-are;
-      bytes_most = r.bytes_most;
-      count-is = r.count-is;
-      each-once = r.each-once;
-      members-below = r.members-below;
-      imports-shown = r.imports-shown;
-      gives-shown = r.gives-shown;
-      out-size = size ∙ r.out-size;
-    }
 
 -- All is ready where the sets are those of the sections.
 module _ {p : Project} {groups : List (List ℕ)} {items imports needs bytes : List ℕ} {count : ℕ} {out : List ℕ}
     (o : Orderable p groups items imports needs bytes count out) where
-  pub importers-below : (i : Import) → i ∈ pair_rows import_row imports → i.importer < module_limit
-  importers-below i m = omega (arith, (o.accepted.import-rows i (subst (λ (l : List Import). i ∈ l) (sym o.imports-are) m)).importer-below, o.accepted.modules-most)
-
-  pub items-below : (i : Item) → i ∈ pair_rows item_row items → i.in_module < module_limit
-  items-below i m = omega (arith, (o.accepted.item-rows i (subst (λ (l : List Item). i ∈ l) (sym o.items-are) m)).module-below, o.accepted.modules-most)
-
-  pub chainable : {module-of heads next : List ℕ} → length module-of ≡ item_limit → length next ≡ item_limit → Zeros module_limit heads
-      → RowsChainable p items module-of heads next
-  chainable a b z = record { accepted = o.accepted; section = o.items-are; modules-size = a; next-size = b; heads-zero = z }
-
-  pub ready : {module-of heads next module-of' heads' next' : List ℕ} (importers givers : ℕ) → RowsChained p items module-of heads next module-of' heads' next'
-      → ((m : ℕ) → bit importers m ≡ any (is_importer m) (pair_rows import_row imports))
-      → ((m : ℕ) → bit givers m ≡ any (is_giver m) (pair_rows item_row items))
-      → Ready p groups items next' heads' bytes count importers givers out
-  ready importers givers c i g =
+  pub ready : {turns : Turns} → RowsShown p turns.items → ((m : ℕ) → bit turns.importers m ≡ any (is_importer m) (pair_rows import_row imports))
+      → ((m : ℕ) → bit turns.givers m ≡ any (is_giver m) (pair_rows item_row items)) → Ready p groups turns
+  ready rows i g =
       record {
         accepted = o.accepted;
-        chains = c.chains;
-        bytes-are = o.bytes-are;
-        bytes_most = o.bytes_most;
-        count-is = o.count-is;
+        rows_shown = rows;
+        groups-most = omega (arith, o.count-is, o.count_most);
         each-once = o.each-once;
         members-below = o.members-below;
         imports-shown = λ m. i m ∙ ap (any (is_importer m)) (sym o.imports-are) ∙ imports-shown p m;
         gives-shown = λ m. g m ∙ ap (any (is_giver m)) (sym o.items-are) ∙ gives-shown p m;
-        out-size = o.out-size;
       }
 
-  pub resuming : {next heads now : List ℕ} {importers givers allowance : ℕ} {t : Turn} → Ready p groups items next heads bytes count importers givers out
-      → length now ≡ length out → Turning p groups bytes allowance out now t
-      → Resuming p groups items needs next heads bytes count importers givers allowance out now t
-  resuming r size t =
+  pub notable : Notable groups bytes count
+  notable =
       record {
-        items-are = o.items-are;
-        needs-are = o.needs-are;
+        bytes-are = o.bytes-are;
+        count-is = o.count-is;
         count_most = o.count_most;
-        ready = ready_on r size;
-        turning = t;
+        members-below = λ g m x k. omega (arith, o.members-below g m x k, o.accepted.modules-most);
       }
 
--- The turns from one on, with the owners noted and then the needs chained.
-module _ {p : Project} {groups : List (List ℕ)} {items needs next heads bytes : List ℕ} {count importers givers allowance : ℕ} {before now : List ℕ} {t : Turn}
-    (r : Resuming p groups items needs next heads bytes count importers givers allowance before now t) where
-  pub notable : {owners : List ℕ} → Zeros module_limit owners → Notable groups bytes count owners
-  notable z =
+  -- the turns go on from one
+  pub going : {turns : Turns} {owners : Owners} {now : List ℕ} {allowance : ℕ} {t : Turn} → Ready p groups turns
+      → OwnersShown groups owners.array → length now ≡ length out → Turning p groups allowance out now t
+      → Going p groups turns needs owners allowance out now t
+  going r shown size turning =
       record {
-        bytes-are = r.ready.bytes-are;
-        count-is = r.ready.count-is;
-        count_most = r.count_most;
-        members-below = λ g m x k. omega (arith, r.ready.members-below g m x k, r.ready.accepted.modules-most);
-        owners-zero = z;
-      }
-
-  pub few-items : (k : ℕ) → length items ≤ 2 * k → length p.items ≤ k
-  few-items k h = rw r.items-are (items-fit items k h)
-
-  pub few-needs : (k : ℕ) → length needs ≤ 3 * k → length p.needs ≤ k
-  few-needs k h = rw r.needs-are (needs-fit needs k h)
-
-  pub owning : {owners : List ℕ} → OwnersShown groups owners → Owning p groups items needs owners next heads bytes importers givers allowance before now t
-  owning shown =
-      record {
+        ready = r;
         owned =
             record {
-              accepted = r.ready.accepted;
-              items-are = r.items-are;
-              needs-are = r.needs-are;
+              accepted = o.accepted;
+              items-are = r.rows_shown.section;
+              needs-are = o.needs-are;
               owners-shown = shown;
-              groups-most = omega (arith, r.count_most, r.ready.count-is);
+              groups-most = r.groups-most;
             };
-        ready = record {
-          accepted = r.ready.accepted;
-          chains = r.ready.chains;
-          bytes-are = r.ready.bytes-are;
-          bytes_most = r.ready.bytes_most;
-          count-is = refl;
-          each-once = r.ready.each-once;
-          members-below = r.ready.members-below;
-          imports-shown = r.ready.imports-shown;
-          gives-shown = r.ready.gives-shown;
-          out-size = r.ready.out-size;
-        };
-        turning = r.turning;
+        size = size ∙ o.out-size;
+        turning = turning;
       }
 
-module _ {p : Project} {groups : List (List ℕ)} {items needs owners next heads bytes : List ℕ} {importers givers allowance : ℕ} {before now : List ℕ} {t : Turn}
-    (o : Owning p groups items needs owners next heads bytes importers givers allowance before now t) where
-  pub needs-chainable : {need-heads next-need : List ℕ} → length p.needs ≤ length next-need → Zeros (module_limit + 1) need-heads
-      → NeedsChainable p groups items needs owners need-heads next-need
-  needs-chainable n z = record { owned = o.owned; next-room = n; heads-zero = z }
+-- The turns from one on: what arrays are large enough, and the same with the needs chained.
+module _ {p : Project} {groups : List (List ℕ)} {turns : Turns} {needs : List ℕ} {owners : Owners} {allowance : ℕ} {before now : List ℕ} {t : Turn}
+    (h : Going p groups turns needs owners allowance before now t) where
+  pub sized : (most many WORDS : ℕ) → length turns.items.section.now ≤ 2 * most → length needs ≤ 3 * many → most * words_for most ≤ WORDS
+      → Sized WORDS many p
+  sized most many WORDS few less room =
+      let items : length p.items ≤ most = rw h.owned.items-are (items-fit turns.items.section.now most few) in
+      let fewer : words_for (length p.items) ≤ words_for most = omega (arith, items) in
+      record { rows = omega (arith, mul-le-mul items fewer, room); places = rw h.owned.needs-are (needs-fit needs many less) }
 
-  pub sorting : {next-need need-heads : List ℕ} → NeedsChained p groups needs next-need need-heads
-      → Sorting p groups items needs next-need need-heads next heads bytes importers givers allowance before now t
-  sorting c = record { groups-most = o.owned.groups-most; chained = c; ready = o.ready; turning = o.turning }
+  pub sized-any : Sized 1024 need_limit p
+  sized-any =
+      let fewer : words_for (length p.items) ≤ 4 = omega (arith, h.owned.accepted.items-most) in
+      record { rows = omega (arith, mul-le-mul h.owned.accepted.items-most fewer); places = h.owned.accepted.needs-most }
 
-  -- going on from another turn
-  pub owning-on : {now' : List ℕ} {t' : Turn} → length now' ≡ length now → Turning p groups bytes allowance before now' t'
-      → Owning p groups items needs owners next heads bytes importers givers allowance before now' t'
-  owning-on size s = record { owned = o.owned; ready = ready_on o.ready size; turning = s }
+  pub sorting : {WORDS NEEDS : ℕ} {rows : NeedRows NEEDS} → Sized WORDS NEEDS p → NeedsChained p groups rows
+      → Sorting WORDS NEEDS p groups turns rows allowance before now t
+  sorting z c = record { ready = h.ready; chained = c; sized = z; size = h.size; turning = h.turning }
+
+  -- or from a later one
+  pub going-on : {now' : List ℕ} {t' : Turn} → length now' ≡ length now → Turning p groups allowance before now' t'
+      → Going p groups turns needs owners allowance before now' t'
+  going-on size turning = record { ready = h.ready; owned = h.owned; size = size ∙ h.size; turning = turning }

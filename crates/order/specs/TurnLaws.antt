@@ -1,6 +1,6 @@
 -- Laws of the turns of groups. Assumes nothing.
-use Rattle.std.specs.Prelude.{ℕ, ◌+◌, ◌-◌, ◌≤◌, ◌≡◌, refl, Bool, ◌&&◌, List, ◌∷◌, ◌++◌, reverse, length, take}
-use Rattle.std.proofs.Common.{arith, sym, ◌∙◌, ⊎_elim, length-append, length-take-le}
+use Rattle.std.specs.Prelude.{ℕ, ◌+◌, ◌≤◌, ◌≡◌, refl, Bool, ◌&&◌, List, ◌∷◌, ◌++◌, reverse, length}
+use Rattle.std.proofs.Common.{arith, ◌∙◌, ⊎_elim, length-append}
 use Rattle.std.proofs.Math.Path.{ap, subst}
 use Rattle.std.proofs.Math.Bool.{not}
 use Rattle.rules.specs.Lists.{up_from}
@@ -9,55 +9,38 @@ use Rattle.rules.specs.Walk.{Walk, Stop, finished, spent, full}
 use Rattle.rules.specs.Modules.{is_done}
 use Rattle.rules.specs.Items.{giving_modules, given_rows, numbering, group_of, ItemState, item_walk, item_start, order_of, sort_modules}
 use Rattle.laws.specs.Lists.{◌∈◌, ∈-append, ∈-up_from, length-up_from, Once, once-append, once-length}
-use Rattle.laws.specs.Counting.{below_length, keep_same}
+use Rattle.laws.specs.Counting.{Below, keep_same}
 use Rattle.laws.specs.Runs.{Stopped, at-end, at-allowance, at-limit, stopped}
 use Rattle.laws.specs.ModuleVisit.{is_done-∈, done-now, done-still}
 use Rattle.laws.specs.Terms.{module_of, BelongsTo}
 use Rattle.lists.specs.Bits.{bit}
-use Rattle.split.specs.Splits.{ModuleChains}
-use Rattle.order.specs.declared.Turn.{Turn}
-use Rattle.giving.specs.Giving.{Members, giving_of, Stored}
-use Rattle.order.specs.Orders.{Taking, Advanced, Took, Gave}
-use Rattle.giving.specs.StoreLaws.{kept-most, stored-within, stored-front}
+use Rattle.giving.specs.Giving.{giving_of, Stored}
+use Rattle.order.specs.declared.turns.Turn.{Turn}
+use Rattle.order.specs.declared.turns.Turns.{Turns}
+use Rattle.order.specs.Turns.{Taking, Advanced, Took, Gave}
 
 -- The modules of a group that give items, as the code finds them.
-pub members-most : {members : List ℕ} → Members members → length members ≤ module_limit
-members-most f = below_length f.once f.below
-
-module _ {p : Project} {earlier : List (List ℕ)} {members items next heads : List ℕ} {givers : ℕ} {t : Turn} {out : List ℕ}
-    (h : Taking p earlier members items next heads givers t out) where
-  giving-same : giving_of t.used givers members ≡ giving_modules p earlier members
+module _ {p : Project} {earlier : List (List ℕ)} {members : List ℕ} {turns : Turns} {t : Turn} {out : List ℕ}
+    (h : Taking p earlier members turns t out) where
+  pub giving-same : giving_of t.used turns.givers members ≡ giving_modules p earlier members
   unfolding giving_modules
   giving-same =
       keep_same _ _ (reverse members)
-      (λ m _. ap (λ (b : Bool). not b && bit givers m) (h.used-shown m) ∙ ap (λ (b : Bool). not (is_done earlier m) && b) (h.gives-shown m))
+      (λ m _. ap (λ (b : Bool). not b && bit turns.givers m) (h.used-shown m) ∙ ap (λ (b : Bool). not (is_done earlier m) && b) (h.gives-shown m))
 
-  giving-size : length (giving_of t.used givers members) ≤ module_limit
-  giving-size = omega (arith, kept-most (λ m. not (bit t.used m) && bit givers m) members, members-most h.formed)
+  module _ {found : List ℕ} (e : found ≡ giving_of t.used turns.givers members) where
+    pub found-same : found ≡ giving_modules p earlier members
+    found-same = e ∙ giving-same
 
-  module _ {modules modules' : List ℕ} {n : ℕ} (size : length modules ≡ module_limit)
-      (d : Stored (giving_of t.used givers members) 0 modules modules' n) where
-    pub giving-most : n ≤ length modules'
-    giving-most = stored-within d (omega (arith, giving-size))
+    pub giving-room : Below module_limit found × (t.kept + length (given_rows p found) ≤ length out)
+    giving-room = rw found-same (h.below, h.room)
 
-    pub giving-stored : take n modules' ≡ giving_modules p earlier members
-    giving-stored = stored-front d (omega (arith, giving-size)) ∙ giving-same
-
-    pub giving-count : n ≡ length (take n modules')
-    giving-count = sym (length-take-le n modules' giving-most)
-
-    pub giving-room : ModuleChains p (take n modules') items next heads × (t.kept + length (given_rows p (take n modules')) ≤ length out)
-    giving-room = rw giving-stored (h.chains, h.room)
-
-    pub keeps : {after : List ℕ} {r : Turn} {end : ℕ}
-        → ((q : Project) → ModuleChains q (take n modules') items next heads → Stored (given_rows q (take n modules')) t.kept out after end)
-        → Advanced members t end t.made r → Took p earlier members t out after r
+    pub keeps : {after : List ℕ} {r : Turn} {end : ℕ} → Stored (given_rows p found) t.kept out after end → Advanced members t end t.made r
+        → Took p earlier members t out after r
     keeps {after} {end = end} w a =
         record {
-          written =
-              rw a.kept-is
-              (subst (λ (l : List ℕ). Stored (given_rows p l) t.kept out after end) giving-stored (w p giving-room.0));
-          advanced = record { place_is = a.place_is; left_is = a.left_is; used-is = a.used-is; kept-is = refl; made-is = a.made-is };
+          written = rw a.kept-is (subst (λ (l : List ℕ). Stored (given_rows p l) t.kept out after end) found-same w);
+          advanced = record { rest-is = a.rest-is; left_is = a.left_is; used-is = a.used-is; kept-is = refl; made-is = a.made-is };
         }
 
 -- The rows that groups gave, and those of one more group.

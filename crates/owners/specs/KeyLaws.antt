@@ -4,21 +4,23 @@ use Rattle.std.proofs.Common.{arith, ◌∙◌, take_all, get_or-set_same, eqb-t
 use Rattle.std.specs.Prelude.{◌≡◌, Bool, eqb, length, get_or, take, set}
 use Rattle.std.proofs.Math.Path.{refl, sym, ap, ap₂}
 use mathlib.Core.List.{List, [], ◌∷◌, map}
-use Rattle.std.proofs.lemmas.List.{length-map}
+use Rattle.std.proofs.lemmas.List.{length-map, set-get_or}
 use Rattle.std.proofs.Math.ListN.{length-set}
 use Rattle.std.proofs.Math.Seq.{get_or-set_other, set_comm}
 use Rattle.std.proofs.lemmas.Bool.{eqb-false}
 use Rattle.rules.specs.Lists.{cons_if, keep, positions_from}
 use Rattle.rules.specs.Project.{Item, Need, Project, module_limit, item_row, need_row, pair_rows, need_rows}
 use Rattle.rules.specs.Items.{no_item, item_at}
-use Rattle.laws.specs.Lists.{Tested, holds, fails, tested}
-use Rattle.laws.specs.Orders.{get_or-∈, get_d_map}
+use Rattle.laws.specs.Lists.{Tested, holds, fails, tested, length-parts}
+use Rattle.laws.specs.Orders.{get_or-∈, get_d_map, positions-∈}
 use Rattle.laws.specs.Accepted.{NeedRow}
+use Rattle.lists.specs.declared.chains.Chains.{Chains}
+use Rattle.lists.specs.Chained.{places}
 use Rattle.lists.specs.Pairs.{chain, Linked}
-use Rattle.lists.specs.ChainLaws.{link-none, link-turn, link-past}
+use Rattle.lists.specs.ChainLaws.{chain_same, link-none, link-turn, link-past}
 use Rattle.project.specs.RowLaws.{pairs-length}
-use Rattle.split.specs.SplitLaws.{pair-at}
-use Rattle.owners.specs.Owners.{owner_in, owner_of, key_of, need_at, NeedsAlong, Owned, owner_at, RowRoom, both_own, heads_with, next_with, NeedsChainable, NeedsChained}
+use Rattle.split.specs.RowLaws.{pair-at}
+use Rattle.owners.specs.Owners.{owner_in, owner_of, key_of, need_at, NeedsAlong, Owned, owner_at, RowRoom, both_own}
 use Rattle.owners.specs.OwnerLaws.{owner-most}
 
 -- Rows of 3 bytes: row i is at byte 3 * i.
@@ -129,15 +131,13 @@ module _ {p : Project} {groups : List (List ℕ)} {items needs owners : List ℕ
     unfolding need_at
     dependency-room = row_room o (get_or needs (3 * row + 1) 0) ends-below.dependency-below
 
-    pub key-read : {a b k : ℕ} → a ≡ owner_at items owners (get_or needs (3 * row) 0) → b ≡ owner_at items owners (get_or needs (3 * row + 1) 0) → k ≡ both_own a b
-        → get_or (keys_of p groups) row 0 ≡ k
+    pub key-read : get_or (keys_of p groups) row 0 ≡ both_own (owner_at items owners (get_or needs (3 * row) 0)) (owner_at items owners (get_or needs (3 * row + 1) 0))
     unfolding need_at
-    key-read e f g =
+    key-read =
         get_d_map (key_of p groups) p.needs row (need_row 0 0 0) 0 here
         ∙ ap (key_of p groups) (need-read row here)
         ∙ key-both p groups (need_at needs row)
-        ∙ ap₂ both_own (owner-read o (get_or needs (3 * row) 0) ends-below.dependant-below ∙ sym e) (owner-read o (get_or needs (3 * row + 1) 0) ends-below.dependency-below ∙ sym f)
-        ∙ sym g
+        ∙ ap₂ both_own (owner-read o (get_or needs (3 * row) 0) ends-below.dependant-below) (owner-read o (get_or needs (3 * row + 1) 0) ends-below.dependency-below)
 
     pub key_below : get_or (keys_of p groups) row 0 < module_limit + 1
     key_below =
@@ -156,18 +156,6 @@ positions-kept {A} f test d place i (x ∷ l) h =
     go (holds e) same = rw e (ap₂ (λ (y : A) (k : List A). y ∷ k) (h 0 i (omega arith) (omega arith)) same)
     go (fails e) same = rw e same
 
--- A row put in front of its chain, and one on no chain.
-pub with_none : (k i : ℕ) (heads next : List ℕ) → k ≡ 0 → (heads ≡ heads_with k i heads) × (set next i 0 ≡ next_with k i heads next)
-unfolding heads_with next_with
-with_none zero i heads next e = (refl, refl)
-with_none (suc k) i heads next e = absurd (omega arith)
-
-pub with-some : (k i : ℕ) (heads next : List ℕ) → (k ≡ 0 → ⊥)
-    → (set heads k (i + 1) ≡ heads_with k i heads) × (set next i (get_or heads k 0) ≡ next_with k i heads next)
-unfolding heads_with next_with
-with-some zero i heads next f = absurd (f refl)
-with-some (suc k) i heads next f = (refl, refl)
-
 -- In the midst of chaining: the needs from row i on are linked. Key 0 has no chain: its head is taken for one that is not free.
 abbrev pub Chaining : Project → List (List ℕ) → ℕ → List ℕ → List ℕ → List ℕ → List ℕ → Type 0
 Chaining p groups i heads₀ next₀ heads next = Linked i (keys_of p groups) (length p.needs) (set heads₀ 0 1) next₀ (set heads 0 1) next
@@ -175,56 +163,78 @@ Chaining p groups i heads₀ next₀ heads next = Linked i (keys_of p groups) (l
 keys_length : (p : Project) (groups : List (List ℕ)) → length (keys_of p groups) ≡ length p.needs
 keys_length p groups = length-map p.needs (key_of p groups)
 
-pub chaining-start : {p : Project} {groups : List (List ℕ)} {items needs owners heads next : List ℕ} → NeedsChainable p groups items needs owners heads next
-    → Chaining p groups (length needs / 3) heads next heads next
-chaining-start {p} {groups} {heads = heads} {next = next} a = rw (← needs-total a.owned) (link-none (keys_of p groups) (length p.needs) (set heads 0 1) next)
+module _ {p : Project} {groups : List (List ℕ)} {items needs owners : List ℕ} (o : Owned p groups items needs owners) where
+  pub chaining-start : (heads next : List ℕ) → Chaining p groups (length needs / 3) heads next heads next
+  chaining-start heads next = rw (← needs-total o) (link-none (keys_of p groups) (length p.needs) (set heads 0 1) next)
 
-module _ {p : Project} {groups : List (List ℕ)} {items needs owners heads₀ next₀ : List ℕ} (a : NeedsChainable p groups items needs owners heads₀ next₀) where
-  free : (k : ℕ) → get_or (set heads₀ 0 1) (suc k) 0 ≡ 0
-  free k = get_or-set_other heads₀ 0 (suc k) 1 0 (λ e. omega arith) ∙ a.heads-zero.zeros (suc k)
+  module _ {NEEDS : ℕ} (old chains : Chains (module_limit + 1) NEEDS) (none : (k : ℕ) → get_or old.heads k 0 ≡ 0) (fit : length p.needs ≤ NEEDS) where
+    abbrev heads₀ : List ℕ
+    heads₀ = old.heads
 
-  taken : get_or (set heads₀ 0 1) 0 0 ≡ 0 → ⊥
-  taken e = let one = get_or-set_same heads₀ 0 1 0 (omega (arith, a.heads-zero.size)) in omega arith
+    abbrev next₀ : List ℕ
+    next₀ = old.next
 
-  pub chaining-next : {i : ℕ} (k : ℕ) (heads next : List ℕ) → Chaining p groups i heads₀ next₀ heads next → length heads ≡ length heads₀
-      → length next ≡ length next₀ → 0 < i → i ≤ length needs / 3 → get_or (keys_of p groups) (i - 1) 0 ≡ k
-      → Chaining p groups (i - 1) heads₀ next₀ (heads_with k (i - 1) heads) (next_with k (i - 1) heads next)
-  unfolding heads_with next_with
-  chaining-next {i} zero heads next l heads-size next-size more within e =
-      link-past (keys_of p groups) (set heads₀ 0 1) next₀ (set heads 0 1) next (length p.needs) i more (omega (arith, needs-total a.owned))
-      (omega (arith, keys_length p groups)) (omega (arith, a.next-room)) (rw e taken) l
-  chaining-next {i} (suc k) heads next l heads-size next-size more within e =
-      rw (← set_comm heads 0 (suc k) 1 (i - 1 + 1) (λ z. omega arith), ← get_or-set_other heads 0 (suc k) 1 0 (λ z. omega arith))
-      (rw e at
-      (link-turn (keys_of p groups) (set heads₀ 0 1) next₀ (set heads 0 1) next (length p.needs) i more (omega (arith, needs-total a.owned))
-      (omega (arith, keys_length p groups)) (omega (arith, a.next-room))
-      (omega (arith, length-set heads 0 1, key_below a.owned {row = i - 1} (omega arith), a.heads-zero.size)) (rw e (free k)) l))
+    abbrev heads : List ℕ
+    heads = chains.heads
 
-  module _ (heads next : List ℕ) (l : Chaining p groups 0 heads₀ next₀ heads next) (heads-size : length heads ≡ length heads₀) (next-size : length next ≡ length next₀) where
-    first-keys : take (length p.needs) (keys_of p groups) ≡ keys_of p groups
-    first-keys = take_all (length p.needs) (keys_of p groups) (omega (arith, keys_length p groups))
+    abbrev next : List ℕ
+    next = chains.next
 
-    row_read : (j x : ℕ) → j < length p.needs → x ≡ 0 + j → need_at needs x ≡ get_or p.needs j (need_row 0 0 0)
-    row_read j x h e = let same : x ≡ j = omega arith in rw same (sym (need-read a.owned j h))
+    next-room : length p.needs ≤ length next
+    next-room = omega (arith, chains.sizes)
 
-    along : (k : ℕ) → 0 < k → k ≤ module_limit → NeedsAlong needs next (get_or heads k 0) (keep (λ (n : Need). eqb (key_of p groups n) k) p.needs)
-    along zero some h = absurd (omega arith)
-    along (suc k) some h =
-        let head : get_or (set heads 0 1) (suc k) 0 ≡ get_or heads (suc k) 0 = get_or-set_other heads 0 (suc k) 1 0 (λ e. omega arith) in
-        record {
-          count = length p.needs;
-          most = a.owned.accepted.needs-most;
-          within = omega (arith, needs-total a.owned);
-          next-size = omega (arith, a.next-room);
-          next-onward = λ i g. l.next-onward i (omega arith) g;
-          head-most = omega (arith, head, (l.heads-onward (suc k) (free k)).1);
-          along =
-              ap (map (need_at needs))
-              (ap (chain next (length p.needs)) (sym head)
-              ∙ l.chains (suc k) (omega (arith, length-set heads 0 1, a.heads-zero.size)) (free k)
-              ∙ ap (positions_from 0 (λ x. eqb x (suc k))) first-keys)
-              ∙ positions-kept (key_of p groups) (λ x. eqb x (suc k)) (need_row 0 0 0) (need_at needs) 0 p.needs row_read;
-        }
+    free : (k : ℕ) → (k ≡ 0 → ⊥) → get_or (set heads₀ 0 1) k 0 ≡ 0
+    free k f = get_or-set_other heads₀ 0 k 1 0 f ∙ none k
 
-    pub needs-chained : NeedsChained p groups needs next heads
-    needs-chained = record { heads-size = heads-size ∙ a.heads-zero.size; chains = along }
+    taken : get_or (set heads₀ 0 1) 0 0 ≡ 0 → ⊥
+    taken e = let one = get_or-set_same heads₀ 0 1 0 (omega (arith, old.sizes)) in omega arith
+
+    head : (k : ℕ) → (k ≡ 0 → ⊥) → get_or (set heads 0 1) k 0 ≡ get_or heads k 0
+    head k f = get_or-set_other heads 0 k 1 0 f
+
+    module _ (i : ℕ) (l : Chaining p groups i heads₀ next₀ heads next) (some : 0 < i) (within : i ≤ length needs / 3) where
+      -- a row on no chain, whose entry ends
+      pub chaining-past : get_or (keys_of p groups) (i - 1) 0 ≡ 0 → get_or next (i - 1) 0 ≡ 0 → Chaining p groups (i - 1) heads₀ next₀ heads next
+      chaining-past key last =
+          let ended : set next (i - 1) 0 ≡ next = ap (set next (i - 1)) (sym last) ∙ set-get_or next (i - 1) 0 in
+          rw ended at
+          (link-past (keys_of p groups) (set heads₀ 0 1) next₀ (set heads 0 1) next (length p.needs) i some (omega (arith, needs-total o))
+          (omega (arith, keys_length p groups)) next-room (rw key taken) l)
+
+      module _ (k : ℕ) (owned : k ≡ 0 → ⊥) (key : get_or (keys_of p groups) (i - 1) 0 ≡ k) where
+        -- the chain of its key has larger rows
+        pub chaining-larger : 0 < get_or heads k 0 → i < get_or heads k 0
+        chaining-larger h = omega (arith, head k owned, (l.heads-onward k (free k owned)).0 (omega (arith, head k owned)))
+
+        pub chaining-one : Chaining p groups (i - 1) heads₀ next₀ (set heads k (i - 1 + 1)) (set next (i - 1) (get_or heads k 0))
+        chaining-one =
+            rw (← set_comm heads 0 k 1 (i - 1 + 1) (λ z. owned (sym z)), ← head k owned)
+            (rw key at
+            (link-turn (keys_of p groups) (set heads₀ 0 1) next₀ (set heads 0 1) next (length p.needs) i some (omega (arith, needs-total o))
+            (omega (arith, keys_length p groups)) next-room
+            (omega (arith, length-set heads 0 1, key_below o {row = i - 1} (omega arith), chains.sizes)) (rw key (free k owned)) l))
+
+    module _ (l : Chaining p groups 0 heads₀ next₀ heads next) where
+      first-keys : take (length p.needs) (keys_of p groups) ≡ keys_of p groups
+      first-keys = take_all (length p.needs) (keys_of p groups) (omega (arith, keys_length p groups))
+
+      row_read : (j x : ℕ) → j < length p.needs → x ≡ 0 + j → need_at needs x ≡ get_or p.needs j (need_row 0 0 0)
+      row_read j x h e = let same : x ≡ j = omega arith in rw same (sym (need-read o j h))
+
+      pub needs-along : (k : ℕ) → 0 < k → k ≤ module_limit → NeedsAlong needs next (get_or heads k 0) (keep (λ (n : Need). eqb (key_of p groups n) k) p.needs)
+      needs-along k some most =
+          let owned : k ≡ 0 → ⊥ = λ e. omega arith in
+          let n : ℕ = length p.needs in
+          let on = l.heads-onward k (free k owned) in
+          let whole : places next (get_or heads k 0) ≡ chain next n (get_or heads k 0) =
+          chain_same n 0 next next l.next-onward (λ j _. refl) (length next) n (get_or heads k 0) (λ z. z, omega (arith, head k owned, on.1)) (λ z. omega arith) (λ z. omega arith) in
+          let rows : places next (get_or heads k 0) ≡ positions_from 0 (λ x. eqb x k) (keys_of p groups) =
+          whole ∙ ap (chain next n) (sym (head k owned)) ∙ l.chains k (omega (arith, length-set heads 0 1, chains.sizes)) (free k owned) ∙ ap (positions_from 0 (λ x. eqb x k)) first-keys in
+          record {
+            most = omega (arith, o.accepted.needs-most, length-parts (λ (n : Need). eqb (key_of p groups n) k) p.needs);
+            within =
+                rw rows
+                (λ x m. let r = positions-∈ (λ x. eqb x k) 0 0 (keys_of p groups) m in omega (arith, r.1, r.2, keys_length p groups, needs-total o));
+            along =
+                ap (map (need_at needs)) rows ∙ positions-kept (key_of p groups) (λ x. eqb x k) (need_row 0 0 0) (need_at needs) 0 p.needs row_read;
+          }

@@ -122,23 +122,20 @@ pub record Noting (groups rest : List (List ℕ)) (left : ℕ) (owners : List �
   pub members-below : EachBelow module_limit rest
   pub same : (m : ℕ) → or_else (get_or owners m 0) (owner_in rest m) ≡ owner_in groups m
 
-pub noting-start : {groups : List (List ℕ)} {bytes : List ℕ} {count : ℕ} {owners : List ℕ} → Notable groups bytes count owners
+pub noting-start : {groups : List (List ℕ)} {bytes : List ℕ} {count : ℕ} {owners : List ℕ} → Notable groups bytes count → ((m : ℕ) → get_or owners m 0 ≡ 0)
     → Noting groups groups count owners
 unfolding or_else
-noting-start {groups} n =
+noting-start {groups} n none =
     record {
       left_is = n.count-is;
       left-most = n.count_most;
       members-below = n.members-below;
-      same = λ m. ap (λ (x : ℕ). or_else x (owner_in groups m)) (n.owners-zero.zeros m);
+      same = λ m. ap (λ (x : ℕ). or_else x (owner_in groups m)) (none m);
     }
 
 -- The first of the groups left.
 module _ {groups left-groups rest : List (List ℕ)} {members : List ℕ} {left : ℕ} {owners : List ℕ} (s : Noting groups left-groups left owners)
     (first : left-groups ≡ members ∷ rest) where
-  pub noting-some : (0 < left) × (left ≤ module_limit)
-  noting-some = (omega (arith, s.left_is, ap length first), s.left-most)
-
   pub noting-below : Below module_limit members
   noting-below = (rw first at s.members-below) members ∈-self
 

@@ -1,13 +1,12 @@
 -- The group that an item belongs to, and the needs of a project chained by the group that both their ends belong to. Assumes nothing.
-use Rattle.std.specs.Prelude.{ℕ, zero, suc, ◌+◌, ◌*◌, ◌≤◌, ◌<◌, ◌≡◌, true, false, List, [], ◌∷◌, map, eqb, length, get_or, set}
-use Rattle.rules.specs.Lists.{elem, keep}
+use Rattle.std.specs.Prelude.{ℕ, zero, suc, ◌+◌, ◌*◌, ◌/◌, ◌≤◌, ◌<◌, ◌≡◌, true, false, List, [], ◌∷◌, map, eqb, length, get_or}
+use Rattle.rules.specs.Lists.{elem}
 use Rattle.rules.specs.Project.{Need, Project, module_limit, need_limit, item_row, need_row, pair_rows, need_rows}
 use Rattle.rules.specs.Items.{item_at}
 use Rattle.rules.specs.Calls.{group_bytes}
-use Rattle.laws.specs.Counting.{EachBelow}
+use Rattle.laws.specs.Counting.{Below, EachBelow}
 use Rattle.laws.specs.Accepted.{Accepted}
-use Rattle.lists.specs.Arrays.{Zeros}
-use Rattle.lists.specs.Pairs.{chain, Onward}
+use Rattle.lists.specs.Chained.{places}
 
 -- "An item belongs to the first group that lists its module": for module m the number of groups from that group on, and 0 where no group lists it.
 unfoldable pub owner_in : List (List ℕ) → ℕ → ℕ
@@ -27,16 +26,11 @@ key_of p groups n =
 unfoldable pub need_at : List ℕ → ℕ → Need
 need_at section i = need_row (get_or section (3 * i) 0) (get_or section (3 * i + 1) 0) (get_or section (3 * i + 2) 0)
 
--- Some needs of a section stand along the chain from `head`, in their order: an entry is one more than a row, and 0 ends it. The first `count` places
--- are in use.
-pub record NeedsAlong (section next : List ℕ) (head : ℕ) (needs : List Need) : Type 0 where
-  pub count : ℕ
-  pub most : count ≤ need_limit
-  pub within : 3 * count ≤ length section
-  pub next-size : count ≤ length next
-  pub next-onward : (i : ℕ) → i < count → Onward (suc i) count (get_or next i 0)
-  pub head-most : head ≤ count
-  pub along : map (need_at section) (chain next count head) ≡ needs
+-- Some needs of a section stand along the chain from an entry on, in their order.
+pub record NeedsAlong (section next : List ℕ) (entry : ℕ) (needs : List Need) : Type 0 where
+  pub most : length needs ≤ need_limit
+  pub within : Below (length section / 3) (places next entry)
+  pub along : map (need_at section) (places next entry) ≡ needs
 
 -- Where a module has an owner already that stays, else a second one is taken: the first of two owners that is not 0.
 unfoldable pub or_else : ℕ → ℕ → ℕ
@@ -51,13 +45,12 @@ owner_among members owner m = elim (elem m members) [ true ↦ owner | false ↦
 abbrev pub Noted : List ℕ → ℕ → List ℕ → List ℕ → Type 0
 Noted members owner owners owners' = (m : ℕ) → get_or owners' m 0 ≡ or_else (get_or owners m 0) (owner_among members owner m)
 
--- What noting the owners asks for: the groups, as the bytes of a groups call, and an array of zeros.
-pub record Notable (groups : List (List ℕ)) (bytes : List ℕ) (count : ℕ) (owners : List ℕ) : Type 0 where
+-- What noting the owners asks for: the groups, as the bytes of a groups call.
+pub record Notable (groups : List (List ℕ)) (bytes : List ℕ) (count : ℕ) : Type 0 where
   pub bytes-are : bytes ≡ group_bytes groups
   pub count-is : count ≡ length groups
   pub count_most : count ≤ module_limit
   pub members-below : EachBelow module_limit groups
-  pub owners-zero : Zeros module_limit owners
 
 -- An array shows the owner of each module.
 pub record OwnersShown (groups : List (List ℕ)) (owners : List ℕ) : Type 0 where
@@ -84,23 +77,3 @@ pub record RowRoom (items owners : List ℕ) (row : ℕ) : Type 0 where
 -- what two rows are both owned by, and 0 where that differs
 unfoldable pub both_own : ℕ → ℕ → ℕ
 both_own a b = elim (eqb a b) [ true ↦ a | false ↦ 0 ]
-
--- heads and entries with row i in front of the chain of key k, and on no chain where k is 0
-unfoldable pub heads_with : ℕ → ℕ → List ℕ → List ℕ
-heads_with zero i heads = heads
-heads_with (suc k) i heads = set heads (suc k) (i + 1)
-
-unfoldable pub next_with : ℕ → ℕ → List ℕ → List ℕ → List ℕ
-next_with zero i heads next = set next i 0
-next_with (suc k) i heads next = set next i (get_or heads (suc k) 0)
-
--- What chaining them asks for besides: an array for the entries, and heads that are all 0.
-pub record NeedsChainable (p : Project) (groups : List (List ℕ)) (items needs owners heads next : List ℕ) : Type 0 where
-  pub owned : Owned p groups items needs owners
-  pub next-room : length p.needs ≤ length next
-  pub heads-zero : Zeros (module_limit + 1) heads
-
--- What it gives: for each key but 0 the chain of its needs.
-pub record NeedsChained (p : Project) (groups : List (List ℕ)) (needs next' heads' : List ℕ) : Type 0 where
-  pub heads-size : length heads' ≡ module_limit + 1
-  pub chains : (k : ℕ) → 0 < k → k ≤ module_limit → NeedsAlong needs next' (get_or heads' k 0) (keep (λ (n : Need). eqb (key_of p groups n) k) p.needs)

@@ -1,12 +1,13 @@
 -- Laws for the proofs of the groups call. Assumes nothing.
-use Rattle.std.specs.Prelude.{ℕ, ◌+◌, ◌*◌, ◌^◌, ◌≤◌, ◌<◌, ◌≡◌, refl, false, take}
-use Rattle.std.proofs.Common.{suc-le-suc, arith, mul-le-mul, ◌∙◌, lit≤, lt-ltb, le-ltb}
+use Rattle.std.specs.Prelude.{ℕ, ◌+◌, ◌*◌, ◌≤◌, ◌<◌, ◌≡◌, refl, false, take, Result, Ok, Err}
+use Rattle.std.specs.declared.convert.Infallible.{Infallible}
+use Rattle.std.proofs.Common.{arith, mul-le-mul, ◌∙◌, lt-ltb, le-ltb}
 use Rattle.std.proofs.Math.Nat.{le_trans}
 use Rattle.std.proofs.Math.Path.{sym, ap, subst}
 use mathlib.Core.List.{List}
 use Rattle.std.proofs.Math.ListN.{length}
 use Rattle.rules.specs.Project.{Project, refused, read, project_of, module_limit, import_row, pair_rows, circle_lists, bad_circles}
-use Rattle.rules.specs.Walk.{Stop, finished, spent, full}
+use Rattle.rules.specs.Walk.{Stop, finished}
 use Rattle.rules.specs.Modules.{ModuleState, groups_in_order, run_modules}
 use Rattle.rules.specs.Calls.{refusal, module_list_limit, overwrite, group_bytes, groups_bytes, groups_answer, groups_of_project, groups_call}
 use Rattle.laws.specs.Accepted.{Accepted, read-accepted, read-passes}
@@ -14,25 +15,26 @@ use Rattle.laws.specs.ModuleWalk.{groups-made, groups-fit}
 use Rattle.laws.proofs.Calls.{groups-short, groups-long}
 use Rattle.project.specs.Sections.{Accepts, part}
 use Rattle.project.specs.declared.Layout.{Layout}
-use Rattle.chunk.specs.Walks.{Ended, has-finished, was-spent, list-was-full, Holds, Groupable}
+use Rattle.walks.specs.declared.Stop.{Stop as WalkStop}
+use Rattle.walks.specs.Runs.{Ran, has_finished, was_spent, list_was_full, was_crowded}
+use Rattle.chunk.specs.Walks.{Holds, Groupable}
 use Rattle.chunk.specs.CircleLaws.{sound-wider}
 use Rattle.chunk.specs.declared.walk.ModuleWalk.{ModuleWalk}
-use Rattle.chunk.specs.declared.walk.Ending.{Ending}
-use Rattle.chunk.specs.declared.walk.Ending.TheVariants.{Finished, Spent, Full}
 use Rattle.sort.specs.declared.Numbers.{Numbers}
-use Rattle.sort.specs.Answers.{numbers_of, Answered}
+use Rattle.sort.specs.Answers.{number_of, refusal_of, Halted, halted_spent, halted_full, numbers_of, Answered}
 use Rattle.sort.specs.Groups.{Answerable}
 
--- What a run's ending says.
-module _ {stop : Stop ModuleState} {shows : ModuleWalk → ModuleState → Type 0} where
-  pub finished-of : {w : ModuleWalk} {n : ℕ} → Ended stop shows (Finished w n) → (s : ModuleState) × (stop ≡ finished s n) × shows w s
-  finished-of (has-finished s e h) = (s, e, h)
+-- What a run comes to says of the definition's run.
+module _ {Spec State : Type 0} {stop : Stop Spec} {shows : State → Spec → Type 0} where
+  pub finished-of : {C : Type 0} {crowds : C → Type 0} {w : State} {n : ℕ} → Ran stop shows crowds (Ok (w, n))
+      → (s : Spec) × (stop ≡ finished s n) × shows w s
+  finished-of (has_finished s e h) = (s, e, h)
 
-  pub spent-of : {n : ℕ} → Ended stop shows (Spent n) → stop ≡ spent n
-  spent-of (was-spent e) = e
-
-  pub full-of : {n : ℕ} → Ended stop shows (Full n) → stop ≡ full n
-  full-of (list-was-full e) = e
+  pub halted-of : {crowds : Infallible → Type 0} {d : WalkStop Infallible} → Ran stop shows crowds (Err d)
+      → Halted stop (number_of (refusal_of d).0) (refusal_of d).1
+  halted-of (was_spent e) = halted_spent e
+  halted-of (list_was_full e) = halted_full e
+  halted-of (was_crowded {c} h) = elim c [ ]
 
 -- A refusal writes nothing.
 pub refuses : (n module_visits item_visits : ℕ) (reply : List ℕ)
@@ -40,36 +42,28 @@ pub refuses : (n module_visits item_visits : ℕ) (reply : List ℕ)
 unfolding refusal overwrite
 refuses n module_visits item_visits reply = record { numbers = refl; reply = refl }
 
+groups-halted : {stop : Stop ModuleState} {number made : ℕ} → Halted stop number made → groups_answer stop ≡ refusal number made 0
+unfolding groups_answer
+groups-halted (halted_spent e) = rw e
+groups-halted (halted_full e) = rw e
+
 -- The answers to a grouping.
 module _ {stop : Stop ModuleState} {out reply : List ℕ} where
-  pub groups-count : {w : ModuleWalk} {n : ℕ} → Answerable stop out reply (Finished w n) → w.groups ≤ module_limit
-  groups-count a = let f = finished-of a.ended in omega (arith, a.count f.0 _ f.1, f.2.count)
-
-  pub groups-within : {w : ModuleWalk} {n : ℕ} → Answerable stop out reply (Finished w n) → w.used ≤ length out
-  groups-within a = let f = finished-of a.ended in omega (arith, a.within f.0 _ f.1, f.2.used)
-
-  pub groups-room : {w : ModuleWalk} {n : ℕ} → Answerable stop out reply (Finished w n) → w.used ≤ length reply
-  groups-room a = let f = finished-of a.ended in omega (arith, a.fits f.0 _ f.1, f.2.used)
-
-  pub answers-finished : {w : ModuleWalk} {n : ℕ} {after : List ℕ} → Answerable stop out reply (Finished w n) → after ≡ overwrite (take w.used out) reply
+  pub answers-finished : {w : ModuleWalk} {n : ℕ} {after : List ℕ} → Answerable stop out reply (Ok (w, n)) → after ≡ overwrite (take w.used out) reply
       → Answered (groups_answer stop) reply after
       (record { answer = 0; kept = 0; groups = w.groups; module_visits = n; item_visits = 0 })
   unfolding groups_answer
   answers-finished {n = n} a e =
-      let f = finished-of a.ended in
+      let f = finished-of a.ran in
       rw f.1
       (record {
         numbers = ap (λ (g : ℕ). record { answer = 0; kept = 0; groups = g; module_visits = n; item_visits = 0 }) f.2.count;
         reply = e ∙ ap (λ (l : List ℕ). overwrite l reply) f.2.bytes;
       })
 
-  pub answers-spent : {n : ℕ} → Answerable stop out reply (Spent n) → Answered (groups_answer stop) reply reply (numbers_of (refusal 11 n 0))
-  unfolding groups_answer
-  answers-spent {n} a = rw (spent-of a.ended) (refuses 11 n 0 reply)
-
-  pub answers-full : {n : ℕ} → Answerable stop out reply (Full n) → Answered (groups_answer stop) reply reply (numbers_of (refusal 12 n 0))
-  unfolding groups_answer
-  answers-full {n} a = rw (full-of a.ended) (refuses 12 n 0 reply)
+  pub answers-stopped : {d : WalkStop Infallible} → Answerable stop out reply (Err d)
+      → Answered (groups_answer stop) reply reply (numbers_of (refusal (number_of (refusal_of d).0) (refusal_of d).1 0))
+  answers-stopped {d} a = rw (groups-halted (halted-of a.ran)) (refuses (number_of (refusal_of d).0) (refusal_of d).1 0 reply)
 
 -- What a grouping writes fits the array that is made for it.
 pub bytes_fit : {p : Project} → Accepted p → (allowance : ℕ) (s : ModuleState) (n : ℕ) → run_modules p module_list_limit allowance ≡ finished s n
@@ -102,13 +96,13 @@ module _ (bytes : List ℕ) {l : Layout} (a : Accepts bytes l) where
             (subst (λ (b : List ℕ). bad_circles p.modules 0 b ≡ false) a.sections.circles (read-passes bytes p a.reads).0.no-bad-circle);
       }
 
-  pub answerable : (allowance : ℕ) {out reply : List ℕ} {ending : Ending} → length out ≡ module_limit * (module_limit + 1)
-      → l.modules * (l.modules + 1) ≤ length reply → Ended (run_modules p module_list_limit allowance) (Holds out) ending
-      → Answerable (run_modules p module_list_limit allowance) out reply ending
+  pub answerable : (allowance : ℕ) {out reply : List ℕ} {found : Result (ModuleWalk × ℕ) (WalkStop Infallible)} → length out ≡ module_limit * (module_limit + 1)
+      → l.modules * (l.modules + 1) ≤ length reply → Ran (run_modules p module_list_limit allowance) (Holds out) (λ _. ⊥) found
+      → Answerable (run_modules p module_list_limit allowance) out reply found
   unfolding groups_bytes
   answerable allowance {reply = reply} size long e =
       record {
-        ended = e;
+        ran = e;
         count = λ s n f. le_trans (groups-made project-accepted module_list_limit allowance s n f).count project-accepted.modules-most;
         within = λ s n f. rw size (bytes_fit project-accepted allowance s n f);
         fits = λ s n f.
@@ -116,15 +110,6 @@ module _ (bytes : List ℕ) {l : Layout} (a : Accepts bytes l) where
       }
 
   -- Number 10, and an answer behind it.
-  pub modules-small : l.modules ≤ module_limit
-  modules-small = omega (arith, a.modules, project-accepted.modules-most)
-
-  pub product-fits : l.modules * (l.modules + 1) < 2 ^ 64
-  product-fits =
-      let m = modules-small in
-      let n : l.modules + 1 ≤ module_limit + 1 = omega arith in
-      le_trans (suc-le-suc (mul-le-mul m n)) (lit≤ tt)
-
   pub answers-short : (allowance : ℕ) (reply : List ℕ) → length reply < l.modules * (l.modules + 1)
       → Answered (groups_of_project p (length reply) allowance) reply reply (numbers_of (refusal 10 0 0))
   unfolding groups_bytes

@@ -1,6 +1,5 @@
 pub mod Answers
 pub mod Guarantees
-pub mod CopyLaws
 pub mod Groups
 pub mod GroupLaws
 pub mod Orders

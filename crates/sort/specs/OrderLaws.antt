@@ -1,8 +1,9 @@
 -- Laws for the proofs of the order call. Assumes nothing.
-use Rattle.std.specs.Prelude.{ℕ, ◌+◌, ◌-◌, ◌/◌, ◌≤◌, ◌<◌, ◌≡◌, refl, eqb, ltb, drop}
+use Rattle.std.specs.Prelude.{ℕ, ◌+◌, ◌-◌, ◌/◌, ◌≤◌, ◌<◌, ◌≡◌, refl, eqb, ltb, drop, Result, Ok, Err}
+use Rattle.std.specs.declared.convert.Infallible.{Infallible}
 use native.Mathlib.Omega.{arith}
 use Rattle.std.proofs.Math.Nat.{le_trans}
-use Rattle.std.proofs.Common.{mul-le-mul, ◌∙◌, take_at, lt-ltb, le-ltb, ltb-false, eqb-true}
+use Rattle.std.proofs.Common.{◌∙◌, take_at, lt-ltb, le-ltb, ltb-false, eqb-true}
 use Rattle.std.proofs.Math.Path.{sym, ap}
 use mathlib.Core.List.{List, []}
 use Rattle.std.proofs.Math.ListN.{length, take}
@@ -19,33 +20,25 @@ use Rattle.rules.specs.Calls.{refusal, allowed, module_list_limit, item_list_lim
 use Rattle.laws.specs.Lists.{Tested, holds, fails, tested, once-length, reverse-∈, ∈-up_from, length-up_from}
 use Rattle.laws.specs.Accepted.{Accepted, read-accepted}
 use Rattle.laws.specs.Runs.{Stopped, at-end}
-use Rattle.laws.specs.ModuleWalk.{WalkedIn, walked, groups-made, groups-fit}
+use Rattle.laws.specs.ModuleWalk.{WalkedIn, walked, groups-made}
 use Rattle.laws.proofs.Splits.{kept_rows-∈, once-kept_rows}
 use Rattle.laws.proofs.Calls.{order-of, order-short, order-long}
 use Rattle.laws.proofs.GivenOrders.{kept-count}
 use Rattle.project.specs.Sections.{Accepts, part}
 use Rattle.project.specs.declared.Layout.{Layout}
 use Rattle.chunk.specs.declared.walk.ModuleWalk.{ModuleWalk}
-use Rattle.chunk.specs.declared.walk.Ending.TheVariants.{Finished as Walk-finished, Spent as Walk-spent, Full as Walk-full}
-use Rattle.order.specs.declared.Ending.{Ending as OrderEnding}
-use Rattle.order.specs.declared.Ending.TheVariants.{Finished, Spent, Full}
-use Rattle.order.specs.Orders.{Orderable, Ordered, has-finished, was-spent, was-full}
+use Rattle.walks.specs.declared.Stop.{Stop as WalkStop}
+use Rattle.order.specs.Orders.{Orderable, Ordered}
 use Rattle.sort.specs.declared.Numbers.{Numbers}
-use Rattle.sort.specs.Answers.{numbers_of, Answered}
-use Rattle.sort.specs.GroupLaws.{refuses, bytes_fit, finished-of, spent-of, full-of}
+use Rattle.sort.specs.Answers.{number_of, refusal_of, Halted, halted_spent, halted_full, numbers_of, Answered}
+use Rattle.sort.specs.GroupLaws.{refuses, finished-of, halted-of}
 use Rattle.sort.specs.Orders.{Ready, Walked, Found, Givable}
 
--- What a sort's ending says.
-module _ {stop : Stop (List ℕ)} {before rows : List ℕ} where
-  rows_of : {end n : ℕ} → Ordered stop before rows (Finished end n)
-      → (placed : List ℕ) × (stop ≡ finished placed n) × (rows ≡ sets before 0 placed) × (end ≡ length placed)
-  rows_of (has-finished placed e f) = (placed, e, f, refl)
-
-  sort-spent : {n : ℕ} → Ordered stop before rows (Spent n) → stop ≡ spent n
-  sort-spent (was-spent e) = e
-
-  sort-full : {n : ℕ} → Ordered stop before rows (Full n) → stop ≡ full n
-  sort-full (was-full e) = e
+order-halted : (p : Project) (groups visits : ℕ) {stop : Stop (List ℕ)} {number made : ℕ} → Halted stop number made
+    → order_answer p groups visits stop ≡ refusal number visits made
+unfolding order_answer
+order-halted p groups visits (halted_spent e) = rw e
+order-halted p groups visits (halted_full e) = rw e
 
 -- The rows stand in front.
 front : (before placed rows : List ℕ) (end : ℕ) → length placed ≤ length before → rows ≡ sets before 0 placed → end ≡ length placed → take end rows ≡ placed
@@ -55,41 +48,30 @@ front before placed rows end h e f =
 
 -- The answers to a sort of all groups.
 module _ {p : Project} {stop : Stop (List ℕ)} {rows reply : List ℕ} {count : ℕ} where
-  pub rows-within : {end n : ℕ} → Givable p stop rows count reply (Finished end n) → end ≤ length rows
+  pub rows-within : {end n : ℕ} → Givable p stop rows count reply (Ok (end, n)) → end ≤ length rows
   rows-within g =
-      let r = rows_of g.sorted in
-      rw r.2 (simp length-sets (omega (arith, g.kept r.0 _ r.1, g.kept-most, g.size)))
+      let r = finished-of g.ordered in
+      rw r.2.whole (simp length-sets (omega (arith, r.2.count, g.kept r.0 _ r.1, g.kept-most, g.size)))
 
-  pub rows-room : {end n : ℕ} → Givable p stop rows count reply (Finished end n) → end ≤ length reply
-  rows-room g = let r = rows_of g.sorted in omega (arith, g.kept r.0 _ r.1, g.room)
-
-  pub rows-most : {end n : ℕ} → Givable p stop rows count reply (Finished end n) → end ≤ item_limit
-  rows-most g = let r = rows_of g.sorted in omega (arith, g.kept r.0 _ r.1, g.kept-most)
-
-  pub gives-order : (visits : ℕ) {end n : ℕ} {after : List ℕ} → Givable p stop rows count reply (Finished end n) → after ≡ overwrite (take end rows) reply
+  pub gives-order : (visits : ℕ) {end n : ℕ} {after : List ℕ} → Givable p stop rows count reply (Ok (end, n)) → after ≡ overwrite (take end rows) reply
       → Answered (order_answer p count visits stop) reply after
       (record { answer = 0; kept = end; groups = count; module_visits = visits; item_visits = n })
   unfolding order_answer
   gives-order visits {end} {n} g e =
-      let r = rows_of g.sorted in
+      let r = finished-of g.ordered in
       let same : length (kept_rows p) ≡ length r.0 = g.kept r.0 n r.1 in
-      let first : take end rows ≡ r.0 = front g.before r.0 rows end (omega (arith, g.kept-most, g.size)) r.2 r.3 in
-      let kept : end ≡ length (kept_rows p) = omega arith in
+      let first : take end rows ≡ r.0 = front g.before r.0 rows end (omega (arith, g.kept-most, g.size)) r.2.whole (omega (arith, r.2.count)) in
+      let kept : end ≡ length (kept_rows p) = omega (arith, r.2.count) in
       rw r.1
       (record {
         numbers = ap (λ (k : ℕ). record { answer = 0; kept = k; groups = count; module_visits = visits; item_visits = n }) kept;
         reply = e ∙ ap (λ (l : List ℕ). overwrite l reply) first;
       })
 
-  pub gives-spent : (visits : ℕ) {n : ℕ} → Givable p stop rows count reply (Spent n)
-      → Answered (order_answer p count visits stop) reply reply (numbers_of (refusal 11 visits n))
-  unfolding order_answer
-  gives-spent visits {n} g = rw (sort-spent g.sorted) (refuses 11 visits n reply)
-
-  pub gives-full : (visits : ℕ) {n : ℕ} → Givable p stop rows count reply (Full n)
-      → Answered (order_answer p count visits stop) reply reply (numbers_of (refusal 12 visits n))
-  unfolding order_answer
-  gives-full visits {n} g = rw (sort-full g.sorted) (refuses 12 visits n reply)
+  pub gives-stopped : (visits : ℕ) {d : WalkStop Infallible} → Givable p stop rows count reply (Err d)
+      → Answered (order_answer p count visits stop) reply reply (numbers_of (refusal (number_of (refusal_of d).0) visits (refusal_of d).1))
+  gives-stopped visits {d} g =
+      rw (order-halted p count visits (halted-of g.ordered)) (refuses (number_of (refusal_of d).0) visits (refusal_of d).1 reply)
 
 -- No more rows are kept than there are.
 pub kept-items : (p : Project) → length (kept_rows p) ≤ length p.items
@@ -143,14 +125,12 @@ module _ {bytes : List ℕ} {l : Layout} {groups reply : List ℕ} {count visits
       let sections = f.ready.accepts.sections in
       let made = groups-made project-accepted module_list_limit allowance s visits f.grouped in
       let most : p.modules ≤ module_limit = project-accepted.modules-most in
-      let more : p.modules + 1 ≤ module_limit + 1 = omega arith in
       record {
         accepted = project-accepted;
         items-are = ap (pair_rows item_row) sections.items;
         imports-are = ap (pair_rows import_row) sections.imports;
         needs-are = ap need_rows sections.needs;
         bytes-are = f.bytes-are;
-        bytes_most = rw f.bytes-are (le_trans (groups-fit project-accepted module_list_limit allowance s visits f.grouped) (mul-le-mul most more));
         count-is = f.count-is ∙ sym (length-reverse (groups_of s));
         count_most = omega (arith, f.count-is, made.count);
         each-once = λ g m. (made.members g (reverse-∈ (groups_of s) m)).once;
@@ -174,7 +154,7 @@ module _ {bytes : List ℕ} {l : Layout} {groups reply : List ℕ} {count visits
         kept_count = refl;
       })
 
-  pub givable : {before rows : List ℕ} {ending : OrderEnding} → length before ≡ item_limit
+  pub givable : {before rows : List ℕ} {ending : Result (ℕ × ℕ) (WalkStop Infallible)} → length before ≡ item_limit
       → Ordered (order_groups p item_list_limit (allowance - visits) [] (groups_in_order s) [] 0) before rows ending
       → Givable p (order_groups p item_list_limit (allowance - visits) [] (groups_in_order s) [] 0) rows count reply ending
   unfolding order_bytes
@@ -183,44 +163,40 @@ module _ {bytes : List ℕ} {l : Layout} {groups reply : List ℕ} {count visits
       record {
         before = before;
         size = size;
-        sorted = sorted;
+        ordered = sorted;
         count_most = omega (arith, f.count-is, made.count, project-accepted.modules-most);
         kept = placed-kept;
         kept-most = omega (arith, kept-items p, project-accepted.items-most);
         room = omega (arith, kept-items p, f.ready.room);
       }
 
+after-halted : (p : Project) (allowance : ℕ) {stop : Stop ModuleState} {number made : ℕ} → Halted stop number made
+    → after_groups p allowance stop ≡ refusal number made 0
+unfolding after_groups
+after-halted p allowance (halted_spent e) = rw e
+after-halted p allowance (halted_full e) = rw e
+
 -- From the module walk to the sort of its groups.
 module _ {bytes : List ℕ} {l : Layout} {groups reply : List ℕ} {allowance : ℕ} where
-  pub found : {w : ModuleWalk} {n : ℕ} (k : Walked bytes l groups reply allowance (Walk-finished w n))
-      → Found bytes l (take w.used groups) w.groups n reply allowance (finished-of k.ended).0
+  pub found : {w : ModuleWalk} {n : ℕ} (k : Walked bytes l groups reply allowance (Ok (w, n)))
+      → Found bytes l (take w.used groups) w.groups n reply allowance (finished-of k.ran).0
   found k =
-      let e = finished-of k.ended in
+      let e = finished-of k.ran in
       record { ready = k.ready; grouped = e.1; bytes-are = e.2.bytes; count-is = e.2.count }
 
-  pub found_within : {w : ModuleWalk} {n : ℕ} → Walked bytes l groups reply allowance (Walk-finished w n) → w.used ≤ length groups
-  found_within k =
-      let e = finished-of k.ended in
-      let a = read-accepted bytes (project_of bytes) k.ready.accepts.reads in
-      omega (arith, bytes_fit a allowance e.0 _ e.1, e.2.used, k.size)
-
-  pub sorts-finished : {w : ModuleWalk} {n : ℕ} {after : List ℕ} {r : Numbers} (k : Walked bytes l groups reply allowance (Walk-finished w n))
+  pub sorts-finished : {w : ModuleWalk} {n : ℕ} {after : List ℕ} {r : Numbers} (k : Walked bytes l groups reply allowance (Ok (w, n)))
       → ((s : ModuleState) → Found bytes l (take w.used groups) w.groups n reply allowance s
       → Answered
       (order_answer (project_of bytes) (length (groups_of s)) n (order_groups (project_of bytes) item_list_limit (allowance - n) [] (groups_in_order s) [] 0)) reply after r)
       → Answered (after_groups (project_of bytes) allowance (run_modules (project_of bytes) module_list_limit allowance)) reply after r
   unfolding after_groups
-  sorts-finished k h = rw (finished-of k.ended).1 (h _ (found k))
+  sorts-finished k h = rw (finished-of k.ran).1 (h _ (found k))
 
-  pub sorts-spent : {n : ℕ} → Walked bytes l groups reply allowance (Walk-spent n)
-      → Answered (after_groups (project_of bytes) allowance (run_modules (project_of bytes) module_list_limit allowance)) reply reply (numbers_of (refusal 11 n 0))
-  unfolding after_groups
-  sorts-spent {n} k = rw (spent-of k.ended) (refuses 11 n 0 reply)
-
-  pub sorts-full : {n : ℕ} → Walked bytes l groups reply allowance (Walk-full n)
-      → Answered (after_groups (project_of bytes) allowance (run_modules (project_of bytes) module_list_limit allowance)) reply reply (numbers_of (refusal 12 n 0))
-  unfolding after_groups
-  sorts-full {n} k = rw (full-of k.ended) (refuses 12 n 0 reply)
+  pub sorts-stopped : {d : WalkStop Infallible} → Walked bytes l groups reply allowance (Err d)
+      → Answered (after_groups (project_of bytes) allowance (run_modules (project_of bytes) module_list_limit allowance)) reply reply
+      (numbers_of (refusal (number_of (refusal_of d).0) (refusal_of d).1 0))
+  sorts-stopped {d} k =
+      rw (after-halted (project_of bytes) allowance (halted-of k.ran)) (refuses (number_of (refusal_of d).0) (refusal_of d).1 0 reply)
 
 -- Number 10, and an answer behind it.
 module _ (bytes : List ℕ) {l : Layout} (a : Accepts bytes l) (allowance : ℕ) (reply : List ℕ) where

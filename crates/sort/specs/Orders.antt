@@ -1,5 +1,6 @@
 -- What the order call relies on between its functions. Assumes nothing.
-use Rattle.std.specs.Prelude.{ℕ, ◌+◌, ◌*◌, ◌≤◌, ◌≡◌, List, length}
+use Rattle.std.specs.Prelude.{ℕ, ◌+◌, ◌*◌, ◌≤◌, ◌≡◌, List, length, Result}
+use Rattle.std.specs.declared.convert.Infallible.{Infallible}
 use Rattle.rules.specs.Project.{Project, project_of, module_limit, item_limit}
 use Rattle.rules.specs.Walk.{Stop, finished}
 use Rattle.rules.specs.Modules.{ModuleState, groups_of, groups_in_order, run_modules}
@@ -7,10 +8,11 @@ use Rattle.rules.specs.Items.{kept_rows}
 use Rattle.rules.specs.Calls.{module_list_limit, order_bytes, group_bytes}
 use Rattle.project.specs.Sections.{Accepts}
 use Rattle.project.specs.declared.Layout.{Layout}
-use Rattle.chunk.specs.Walks.{Ended, Holds}
-use Rattle.chunk.specs.declared.walk.Ending.{Ending}
+use Rattle.walks.specs.declared.Stop.{Stop as WalkStop}
+use Rattle.walks.specs.Runs.{Ran}
+use Rattle.chunk.specs.Walks.{Holds}
+use Rattle.chunk.specs.declared.walk.ModuleWalk.{ModuleWalk}
 use Rattle.order.specs.Orders.{Ordered}
-use Rattle.order.specs.declared.Ending.{Ending as OrderEnding}
 
 -- An accepted project and a reply that is long enough, with an allowance that is not 0.
 pub record Ready (bytes : List ℕ) (l : Layout) (reply : List ℕ) (allowance : ℕ) : Type 0 where
@@ -19,10 +21,10 @@ pub record Ready (bytes : List ℕ) (l : Layout) (reply : List ℕ) (allowance :
   pub some : 1 ≤ allowance
 
 -- The module walk has stopped: where it has finished, its groups stand in front of `groups`.
-pub record Walked (bytes : List ℕ) (l : Layout) (groups reply : List ℕ) (allowance : ℕ) (ending : Ending) : Type 0 where
+pub record Walked (bytes : List ℕ) (l : Layout) (groups reply : List ℕ) (allowance : ℕ) (found : Result (ModuleWalk × ℕ) (WalkStop Infallible)) : Type 0 where
   pub ready : Ready bytes l reply allowance
   pub size : length groups ≡ module_limit * (module_limit + 1)
-  pub ended : Ended (run_modules (project_of bytes) module_list_limit allowance) (Holds groups) ending
+  pub ran : Ran (run_modules (project_of bytes) module_list_limit allowance) (Holds groups) (λ _. ⊥) found
 
 -- The module walk has finished, and `groups` are the bytes of its groups.
 pub record Found (bytes : List ℕ) (l : Layout) (groups : List ℕ) (count visits : ℕ) (reply : List ℕ) (allowance : ℕ) (s : ModuleState) : Type 0 where
@@ -32,11 +34,12 @@ pub record Found (bytes : List ℕ) (l : Layout) (groups : List ℕ) (count visi
   pub count-is : count ≡ length (groups_of s)
 
 -- A sort of all groups that can be answered: where it has finished, it has placed all kept rows, and they fit the reply.
-pub record Givable (p : Project) (stop : Stop (List ℕ)) (rows : List ℕ) (count : ℕ) (reply : List ℕ) (ending : OrderEnding) : Type 0 where
-  pub before : List ℕ
-  pub size : length before ≡ item_limit
-  pub sorted : Ordered stop before rows ending
-  pub count_most : count ≤ module_limit
-  pub kept : (placed : List ℕ) (n : ℕ) → stop ≡ finished placed n → length (kept_rows p) ≡ length placed
-  pub kept-most : length (kept_rows p) ≤ item_limit
-  pub room : length (kept_rows p) ≤ length reply
+pub record Givable (p : Project) (stop : Stop (List ℕ)) (rows : List ℕ) (count : ℕ) (reply : List ℕ) (sorted : Result (ℕ × ℕ) (WalkStop Infallible)) : Type 0
+  where
+    pub before : List ℕ
+    pub size : length before ≡ item_limit
+    pub ordered : Ordered stop before rows sorted
+    pub count_most : count ≤ module_limit
+    pub kept : (placed : List ℕ) (n : ℕ) → stop ≡ finished placed n → length (kept_rows p) ≡ length placed
+    pub kept-most : length (kept_rows p) ≤ item_limit
+    pub room : length (kept_rows p) ≤ length reply

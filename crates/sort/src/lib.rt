@@ -7,28 +7,62 @@ mod report;
 
 ghost use Rattle.std.specs.Prelude.{◌≡◌, List, [], ℕ, ◌+◌, ◌*◌, ◌-◌, ◌≤◌, length};
 ghost use Rattle.rules.specs.Project.{Project, project_of, module_limit};
-ghost use Rattle.rules.specs.Walk.{Stop};
+ghost use Rattle.rules.specs.Walk.{Stop as SpecStop};
 ghost use Rattle.rules.specs.Modules.{ModuleState, groups_of, groups_in_order, run_modules};
 ghost use Rattle.rules.specs.Calls.{refusal, allowed, overwrite, module_list_limit, item_list_limit, groups_answer, groups_of_project, groups_call, order_groups, order_answer, after_groups, order_of_project, order_call};
-ghost use Rattle.chunk.specs.Walks.{Ended, Holds};
+ghost use Rattle.walks.specs.Runs.{Ran};
+ghost use Rattle.chunk.specs.Walks.{Holds};
 ghost use Rattle.project.specs.Sections.{Accepts};
-ghost use Rattle.sort.specs.Answers.{numbers_of, Answered};
+ghost use Rattle.sort.specs.Answers.{number_of, refusal_of, numbers_of, Answered};
 ghost use Rattle.sort.specs.Guarantees.{GroupsGuaranteed, OrderGuaranteed};
 ghost use Rattle.sort.specs.Groups.{Answerable};
 ghost use Rattle.sort.specs.Orders.{Walked, Found, Givable};
 
 use chunk::arrays::Arrays;
-use chunk::walk;
-use chunk::walk::Ending;
+use chunk::walk::{self, ModuleWalk};
 use order::sort_groups;
 use project::Layout;
 use project::sections::{ItemRow, Row};
+use std::convert::Infallible;
+use walks::Stop;
 
 // The visits that an allowance of 0 stands for.
 const USUAL_ALLOWANCE: u32 = 20000;
 
+// Why an accepted project is not answered.
+#[derive(Clone, Copy, PartialEq, Eq, Debug)]
+enum Refusal {
+    ShortReply,
+    Spent,
+    Full,
+}
+
+impl From<Refusal> for u32 {
+    ghost from_gives = { λ r n. n ≡ number_of r };
+
+    // The number of the table.
+    fn from(r: Refusal) -> u32 {
+        match r {
+            Refusal::ShortReply => 10,
+            Refusal::Spent => 11,
+            Refusal::Full => 12,
+        }
+    }
+}
+
+// Why a walk that has not ended is refused, with the visits made.
+fn stopped(stop: Stop<Infallible>) -> (Refusal, u32)
+    ensures { result ≡ refusal_of stop }
+{
+    match stop {
+        Stop::Spent(made) => (Refusal::Spent, made),
+        Stop::Full(made) => (Refusal::Full, made),
+        Stop::Crowded(never) => match never {},
+    }
+}
+
 // What a call returns.
-#[derive(Clone, Copy)]
+#[derive(Clone, Copy, Default)]
 pub struct Numbers {
     pub answer: u32,
     pub kept: u32,
@@ -37,16 +71,17 @@ pub struct Numbers {
     pub item_visits: u32,
 }
 
-// A refusal: its counts are 0, but for the visits made.
-fn refusal(answer: u32, module_visits: u32, item_visits: u32) -> Numbers
-    ensures { result ≡ numbers_of (refusal answer module_visits item_visits) }
-{
-    Numbers {
-        answer,
-        kept: 0,
-        groups: 0,
-        module_visits,
-        item_visits,
+impl Numbers {
+    // A refusal: its counts are 0, but for the visits made.
+    fn refusal(answer: u32, module_visits: u32, item_visits: u32) -> Self
+        ensures { result ≡ numbers_of (refusal answer module_visits item_visits) }
+    {
+        Self {
+            answer,
+            module_visits,
+            item_visits,
+            ..Self::default()
+        }
     }
 }
 
@@ -66,11 +101,7 @@ fn copy_front(source: &[u8], reply: &mut [u8])
     requires { length source.now ≤ length reply.old }
     ensures { reply.new ≡ overwrite source.now reply.old }
 {
-    let mut i = 0;
-    while i < source.len() {
-        reply[i] = source[i];
-        i += 1;
-    }
+    reply[..source.len()].copy_from_slice(source);
 }
 
 // A groups call: the groups' bytes are written to the reply, a count byte and the members of each.
@@ -79,22 +110,24 @@ pub fn groups(project: &[u8], reply: &mut [u8], allowance: u32) -> Numbers
     ensures guarantees { GroupsGuaranteed project.now reply.old allowance result }
 {
     match project::read(project) {
-        Err(r) => refusal(r.into(), 0, 0),
+        Err(r) => Numbers::refusal(r.into(), 0, 0),
         Ok(l) => groups_of(project, l, reply, allowed(allowance)),
     }
 }
 
 // The module walk of an accepted project, which leaves its groups in `arrays`. Where it has not finished, what these hold is left free.
-fn find_groups(project: &[u8], l: Layout, arrays: &mut Arrays, allowance: u32) -> Ending
+fn find_groups(
+    project: &[u8],
+    l: Layout,
+    arrays: &mut Arrays,
+    allowance: u32,
+) -> Result<(ModuleWalk, u32), Stop<Infallible>>
     requires { Accepts project.now l }
-    ensures { Ended (run_modules (project_of project.now) module_list_limit allowance) (Holds arrays.new.groups) result }
+    ensures { Ran (run_modules (project_of project.now) module_list_limit allowance) (Holds arrays.new.groups) (λ _. ⊥) result }
 {
-    let items_end = l.items_end;
-    let imports_end = l.imports_end;
-    let circles_end = l.circles_end;
     walk::toposort_real_module_ids(
-        &project[items_end..imports_end],
-        &project[imports_end..circles_end],
+        &project[l.items_end..l.imports_end],
+        &project[l.imports_end..l.circles_end],
         l.modules,
         l.entry,
         arrays,
@@ -109,33 +142,37 @@ fn groups_of(project: &[u8], l: Layout, reply: &mut [u8], allowance: u32) -> Num
 {
     let m = l.modules as usize;
     if reply.len() < m * (m + 1) {
-        return refusal(10, 0, 0);
+        return Numbers::refusal(Refusal::ShortReply.into(), 0, 0);
     }
     let mut arrays = Arrays::new();
-    let ending = find_groups(project, l, &mut arrays, allowance);
-    give_groups(ending, &arrays.groups, reply)
+    let found = find_groups(project, l, &mut arrays, allowance);
+    give_groups(found, &arrays.groups, reply)
 }
 
 // The answer to a grouping: where it has finished, its bytes are copied to the reply.
-fn give_groups(ending: Ending, out: &[u8], reply: &mut [u8]) -> Numbers
-    requires { (stop : Stop ModuleState) × Answerable stop out.now reply.old ending }
-    ensures { (stop : Stop ModuleState) → Answerable stop out.now reply.old ending
+fn give_groups(
+    found: Result<(ModuleWalk, u32), Stop<Infallible>>,
+    out: &[u8],
+    reply: &mut [u8],
+) -> Numbers
+    requires { (stop : SpecStop ModuleState) × Answerable stop out.now reply.old found }
+    ensures { (stop : SpecStop ModuleState) → Answerable stop out.now reply.old found
         → Answered (groups_answer stop) reply.old reply.new result }
 {
-    match ending {
-        Ending::Finished(w, made) => {
-            let used = w.used;
-            copy_front(&out[..used], reply);
+    match found {
+        Ok((w, made)) => {
+            copy_front(&out[..w.used], reply);
             Numbers {
                 answer: 0,
-                kept: 0,
                 groups: w.groups as u32,
                 module_visits: made,
-                item_visits: 0,
+                ..Numbers::default()
             }
         }
-        Ending::Spent(made) => refusal(11, made, 0),
-        Ending::Full(made) => refusal(12, made, 0),
+        Err(stop) => {
+            let (why, made) = stopped(stop);
+            Numbers::refusal(why.into(), made, 0)
+        }
     }
 }
 
@@ -145,7 +182,7 @@ pub fn order(project: &[u8], reply: &mut [u8], allowance: u32) -> Numbers
     ensures guarantees { OrderGuaranteed project.now reply.old allowance reply.new result }
 {
     match project::read(project) {
-        Err(r) => refusal(r.into(), 0, 0),
+        Err(r) => Numbers::refusal(r.into(), 0, 0),
         Ok(l) => order_of(project, l, reply, allowed(allowance)),
     }
 }
@@ -156,43 +193,41 @@ fn order_of(project: &[u8], l: Layout, reply: &mut [u8], allowance: u32) -> Numb
     requires le_allowance { 1 ≤ allowance }
     ensures { Answered (order_of_project (project_of project.now) (length reply.old) allowance) reply.old reply.new result }
 {
-    let items_end = l.items_end;
-    if reply.len() < (items_end - Layout::START) / ItemRow::BYTES {
-        return refusal(10, 0, 0);
+    if reply.len() < (l.items_end - Layout::START) / ItemRow::BYTES {
+        return Numbers::refusal(Refusal::ShortReply.into(), 0, 0);
     }
     let mut arrays = Arrays::new();
-    let ending = find_groups(project, l, &mut arrays, allowance);
-    sort_found(project, l, ending, &arrays.groups, reply, allowance)
+    let found = find_groups(project, l, &mut arrays, allowance);
+    sort_found(project, l, found, &arrays.groups, reply, allowance)
 }
 
 // Goes on from the module walk: where it has finished, its groups are sorted.
 fn sort_found(
     project: &[u8],
     l: Layout,
-    ending: Ending,
+    found: Result<(ModuleWalk, u32), Stop<Infallible>>,
     groups: &[u8],
     reply: &mut [u8],
     allowance: u32,
 ) -> Numbers
-    requires { Walked project.now l groups.now reply.old allowance ending }
+    requires { Walked project.now l groups.now reply.old allowance found }
     ensures { Answered (after_groups (project_of project.now) allowance (run_modules (project_of project.now) module_list_limit allowance))
         reply.old reply.new result }
 {
-    match ending {
-        Ending::Finished(w, visits) => {
-            let used = w.used;
-            sort_items(
-                project,
-                l,
-                &groups[..used],
-                w.groups,
-                visits,
-                reply,
-                allowance,
-            )
+    match found {
+        Ok((w, visits)) => sort_items(
+            project,
+            l,
+            &groups[..w.used],
+            w.groups,
+            visits,
+            reply,
+            allowance,
+        ),
+        Err(stop) => {
+            let (why, visits) = stopped(stop);
+            Numbers::refusal(why.into(), visits, 0)
         }
-        Ending::Spent(visits) => refusal(11, visits, 0),
-        Ending::Full(visits) => refusal(12, visits, 0),
     }
 }
 
@@ -214,36 +249,33 @@ fn sort_items(
         (order_groups (project_of project.now) item_list_limit (allowance - module_visits) [] (groups_in_order s) [] 0))
         reply.old reply.new result }
 {
-    let items_end = l.items_end;
-    let imports_end = l.imports_end;
-    let circles_end = l.circles_end;
     let mut rows = [0u8; Layout::ITEM_ROOM];
-    let ending = sort_groups(
-        &project[Layout::START..items_end],
-        &project[items_end..imports_end],
-        &project[circles_end..],
+    let sorted = sort_groups(
+        &project[Layout::START..l.items_end],
+        &project[l.items_end..l.imports_end],
+        &project[l.circles_end..],
         groups,
         count,
         &mut rows,
         allowance - module_visits,
     );
-    give_order(ending, &rows, count, module_visits, reply)
+    give_order(sorted, &rows, count, module_visits, reply)
 }
 
 // The answer to a sort of all groups: where it has finished, its rows are copied to the reply.
 fn give_order(
-    ending: order::Ending,
+    sorted: Result<(usize, u32), Stop<Infallible>>,
     rows: &[u8],
     groups: usize,
     module_visits: u32,
     reply: &mut [u8],
 ) -> Numbers
-    requires { (p : Project) × (stop : Stop (List ℕ)) × Givable p stop rows.now groups reply.old ending }
-    ensures { (p : Project) (stop : Stop (List ℕ)) → Givable p stop rows.now groups reply.old ending
+    requires { (p : Project) × (stop : SpecStop (List ℕ)) × Givable p stop rows.now groups reply.old sorted }
+    ensures { (p : Project) (stop : SpecStop (List ℕ)) → Givable p stop rows.now groups reply.old sorted
         → Answered (order_answer p groups module_visits stop) reply.old reply.new result }
 {
-    match ending {
-        order::Ending::Finished(end, made) => {
+    match sorted {
+        Ok((end, made)) => {
             copy_front(&rows[..end], reply);
             Numbers {
                 answer: 0,
@@ -253,7 +285,9 @@ fn give_order(
                 item_visits: made,
             }
         }
-        order::Ending::Spent(made) => refusal(11, module_visits, made),
-        order::Ending::Full(made) => refusal(12, module_visits, made),
+        Err(stop) => {
+            let (why, made) = stopped(stop);
+            Numbers::refusal(why.into(), module_visits, made)
+        }
     }
 }

@@ -1,2 +1,1 @@
 pub mod RowChainLaws
-pub mod SplitRoomLaws

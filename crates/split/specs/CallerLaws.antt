@@ -1,42 +1,24 @@
--- Laws for callers of the split: the room and the chains that it asks for, and what the first list asks for, of the modules of an accepted project
--- that give items. Assumes nothing.
+-- Laws for callers of the split: what the first list asks for holds of what it leaves. Assumes nothing.
 use Prim.Native.Nat.{ℕ, zero, suc, ◌+◌, ◌-◌, ◌≤◌, ◌<◌}
 use native.Mathlib.Omega.{arith}
-use Rattle.std.specs.Prelude.{◌≡◌, Bool, true, false, ltb, take}
-use Rattle.std.proofs.Common.{sym, subst, ◌∙◌, ltb-true, ltb-false}
+use Rattle.std.specs.Prelude.{◌≡◌, Bool, true, false, ltb}
+use Rattle.std.proofs.Common.{sym, subst, ◌∙◌, ltb-true, ltb-false, length-take-le, get_or-take}
 use Rattle.std.proofs.Math.Path.{ap}
 use mathlib.Core.List.Memᴰ
 use mathlib.Core.List.{List, flat_map}
 use Rattle.std.proofs.Math.ListN.{length, get_or, get_or-append}
 use Rattle.rules.specs.Lists.{cons_if, keep, up_from}
-use Rattle.rules.specs.Project.{Project, item_limit, module_limit}
-use Rattle.rules.specs.Items.{is_injected, kind_at, injected_rows, numbering, Range, group_of, kind_of, numbers, starts as starts_of, first_list}
+use Rattle.rules.specs.Project.{Project}
+use Rattle.rules.specs.Items.{is_injected, kind_at, injected_rows, numbering, Range, group_of, kind_of, numbers, starts as starts_of}
 use Rattle.laws.specs.Lists.{Tested, holds, fails, tested, up_from-∈}
 use Rattle.laws.specs.Orders.{get_or-∈, get_or-behind}
-use Rattle.laws.specs.Counting.{below_length, keep_all}
-use Rattle.laws.specs.Accepted.{Accepted}
-use Rattle.laws.proofs.Splits.{runs, giving-below, length-numbering, length-kinds, kind_of-row, uninjected-∈, injected-∈, well_formed}
+use Rattle.laws.specs.Counting.{keep_all}
+use Rattle.laws.proofs.Splits.{runs, length-kinds, kind_of-row, uninjected-∈, injected-∈, well_formed}
 use Rattle.laws.specs.Splits.{size, Giving}
 use Rattle.split.specs.declared.Split.{Split}
-use Rattle.split.specs.Splits.{SplitRoom, Splits}
+use Rattle.split.specs.Splits.{Splittable, Splits}
 use Rattle.split.specs.SplitLaws.{numbering-parts}
-use Rattle.split.specs.FirstLists.{Listable}
-
--- Arrays of the limits' sizes have room for the split.
-pub split-room : {p : Project} {modules rows kinds low high starts : List ℕ} → Accepted p → Giving p modules → length rows ≡ item_limit
-    → length kinds ≡ item_limit → length low ≡ item_limit → length high ≡ item_limit → length starts ≡ module_limit
-    → SplitRoom p modules rows kinds low high starts
-split-room {p} {modules} a g rows-size kinds-size low-size high-size starts-size =
-    let items : length (numbering p modules) ≤ length p.items = length-numbering p g.once in
-    let given : length modules ≤ p.modules = below_length g.once (giving-below (λ i m. (a.item-rows i m).module-below) g) in
-    record {
-      most = omega (arith, a.items-most);
-      rows-room = omega (arith, a.items-most);
-      kinds-room = omega (arith, a.items-most);
-      low-room = omega (arith, a.items-most);
-      high-room = omega (arith, a.items-most);
-      starts-room = omega (arith, a.modules-most);
-    }
+use Rattle.split.specs.FirstLists.{starts_on, Listable}
 
 -- Of numbers counted up, a test keeps those from u on, where it passes these and none before.
 keep-from : (test : ℕ → Bool) (u a n : ℕ) → ((x : ℕ) → x < u → test x ≡ false) → ((x : ℕ) → u ≤ x → x < a + n → test x ≡ true) → a ≤ u → u ≤ a + n
@@ -92,21 +74,19 @@ starts-numbers {p} {modules} g i h =
     let r = Memᴰ.of_map (λ (r : Range). r.start) (group_of p modules).ranges (get_or-∈ (starts_of (group_of p modules)) i 0 h) in
     subst (λ (x : ℕ). x < size (group_of p modules)) r.2 ((well_formed p modules g).starts-below r.0 r.1)
 
--- What the split leaves is what the first list asks for. `part` is the starts of the modules.
-pub listable : {p : Project} {modules rows kinds low high starts : List ℕ} {s : Split} {part list : List ℕ} → Accepted p → Giving p modules
-    → Splits p modules rows kinds low high starts s → part ≡ take (length modules) starts
-    → length (first_list (group_of p modules)) ≤ length list → Listable (group_of p modules) low high part s list
-listable {p} {modules} {s = s} {part = part} a g d e room =
-    let shown : part ≡ starts_of (group_of p modules) = e ∙ d.starts-shown in
+-- What the split leaves is what the first list asks for.
+pub listable : {p : Project} {modules : List ℕ} {s : Split} → Splittable p modules → Splits p modules s → Listable (group_of p modules) s
+listable {p} {modules} {s} a d =
     record {
       ranges-shown = d.ranges-shown;
-      starts-shown = shown;
+      starts-shown = d.starts-shown;
       starts-below =
-          subst (λ (l : List ℕ). (i : ℕ) → i < length l → get_or l i 0 < size (group_of p modules)) (sym shown) (starts-numbers g);
+          λ i h.
+          let l : length (starts_on s) ≡ s.modules = length-take-le s.modules s.starts (omega (arith, s.sizes, s.counts)) in
+          let k : i < length (starts_of (group_of p modules)) = omega (arith, ap length d.starts-shown) in
+          subst (λ (x : ℕ). x < size (group_of p modules)) (ap (λ (l : List ℕ). get_or l i 0) (sym d.starts-shown) ∙ get_or-take s.modules s.starts i 0 h) (starts-numbers a.giving i k);
       injected-behind =
           injected-numbers p modules
           ∙ sym (ap (λ (u : ℕ). up_from u (length (numbering p modules) - u)) d.uninjected-is)
           ∙ sym (ap (λ (n : ℕ). up_from s.uninjected (n - s.uninjected)) d.count-is);
-      most = omega (arith, d.count-is, length-numbering p g.once, a.items-most);
-      room = room;
     }

@@ -1,7 +1,13 @@
 pub mod Shown
+pub mod Stored
+pub mod Pushed
+pub mod Rows
 pub mod Splits
-pub mod SplitLaws
 pub mod FirstLists
+pub mod RowLaws
+pub mod StoreLaws
+pub mod PushLaws
+pub mod SplitLaws
+pub mod ShownLaws
 pub mod FirstListLaws
-pub mod RowChains
 pub mod CallerLaws

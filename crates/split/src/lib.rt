@@ -1,18 +1,18 @@
 // The split of a group's kept items (sort_stmts): uninjected ones by module, then injected ones, numbered from 0.
 #![tactic(auto)]
 
-pub mod chains;
+pub mod rows;
 
-ghost use Rattle.std.specs.Prelude.{ℕ, ◌+◌, ◌-◌, ◌≤◌, ◌≡◌, length, replicate, true, false};
-ghost use Rattle.std.proofs.lemmas.List.Edits.{sets};
+ghost use Rattle.std.specs.Prelude.{ℕ, ◌+◌, ◌-◌, ◌≤◌, ◌<◌, ◌≡◌, length};
 ghost use Rattle.rules.specs.Lists.{up_from};
-ghost use Rattle.rules.specs.Project.{Project};
-ghost use Rattle.rules.specs.Items.{Group};
-ghost use Rattle.split.specs.Splits.{kept_as, rows_as, numbered_as, RowsAlong, ModuleChains, NumberRoom, Numbered, RangeRoom, RangeNoted, RangesRoom, RangesNoted, SplitRoom, Splits, SplitStored};
-ghost use Rattle.split.specs.FirstLists.{Pushed, held_by, RangesListable, Listable, FirstListed};
+ghost use Rattle.rules.specs.Project.{Project, module_limit, item_limit};
+ghost use Rattle.split.specs.Rows.{kept_as};
+ghost use Rattle.split.specs.Pushed.{Pushed};
 
 use project::kinds::KindByte;
 use project::sections::{ItemRow, Row};
+use project::{Layout, ModuleId};
+use rows::ItemRows;
 
 // Whether items of a kind are kept, and are injected or not as asked.
 fn is_kept_as(kind: KindByte, injected: bool) -> bool
@@ -21,177 +21,15 @@ fn is_kept_as(kind: KindByte, injected: bool) -> bool
     kind.is_kept() & (kind.is_injected() == injected)
 }
 
-// Numbers the kept rows of a module that are injected, or those that are not, from `count` on; the count then. `head` begins the module's chain:
-// an entry is one more than a row, and 0 ends it.
-fn number_rows(
-    items: &[u8],
-    next: &[u16],
-    head: u16,
-    injected: bool,
-    rows: &mut [u16],
-    kinds: &mut [u8],
-    count: usize,
-) -> usize
-    requires { (p : Project) × (m : ℕ) × RowsAlong p m items.now next.now head × NumberRoom (rows_as injected p m) count rows.old kinds.old }
-    ensures { (p : Project) (m : ℕ) → RowsAlong p m items.now next.now head
-        → Numbered p (rows_as injected p m) count rows.old kinds.old rows.new kinds.new result }
-{
-    let mut n = count;
-    let mut e = head as usize;
-    while e != 0 {
-        let row = e - 1;
-        let kind = ItemRow::nth(items, row).kind;
-        if is_kept_as(kind, injected) {
-            rows[n] = row as u16;
-            kinds[n] = kind.0;
-            n += 1;
-        }
-        e = next[row] as usize;
-    }
-    n
-}
-
-// Stores a value at the places from `start` on and below `end`.
-fn fill(array: &mut [u16], start: usize, end: usize, value: u16)
-    requires { end ≤ length array.old }
-    ensures { array.new ≡ sets array.old start (replicate (end - start) value) }
-{
-    let mut i = start;
-    while i < end {
-        array[i] = value;
-        i += 1;
-    }
-}
-
-// Notes the range of a module: its numbers are those from `start` on and below `end`.
-fn note_range(low: &mut [u16], high: &mut [u16], start: usize, end: usize)
-    requires { RangeRoom start end low.old high.old }
-    ensures { RangeNoted start end low.old high.old low.new high.new }
-{
-    fill(low, start, end, start as u16);
-    fill(high, start, end, end as u16);
-}
-
-// Numbers the uninjected rows of each module from 0 on, and notes its range and the start of it; the count then.
-fn number_uninjected(
-    items: &[u8],
-    next: &[u16],
-    heads: &[u16],
-    modules: &[u8],
-    rows: &mut [u16],
-    kinds: &mut [u8],
-    low: &mut [u16],
-    high: &mut [u16],
-    starts: &mut [u16],
-) -> usize
-    requires { (p : Project) × ModuleChains p modules.now items.now next.now heads.now
-        × NumberRoom (numbered_as false p modules.now) 0 rows.old kinds.old
-        × RangesRoom (numbered_as false p modules.now) modules.now low.old high.old starts.old }
-    ensures { (p : Project) → ModuleChains p modules.now items.now next.now heads.now
-        → Numbered p (numbered_as false p modules.now) 0 rows.old kinds.old rows.new kinds.new result
-        × RangesNoted p modules.now low.old high.old starts.old low.new high.new
-        starts.new }
-{
-    let mut n = 0;
-    let mut i = 0;
-    while i < modules.len() {
-        let m = modules[i] as usize;
-        let start = n;
-        n = number_rows(items, next, heads[m], false, rows, kinds, n);
-        starts[i] = start as u16;
-        note_range(low, high, start, n);
-        i += 1;
-    }
-    n
-}
-
-// Numbers the injected rows of each module from `count` on; the count then.
-fn number_injected(
-    items: &[u8],
-    next: &[u16],
-    heads: &[u16],
-    modules: &[u8],
-    rows: &mut [u16],
-    kinds: &mut [u8],
-    count: usize,
-) -> usize
-    requires { (p : Project) × ModuleChains p modules.now items.now next.now heads.now
-        × NumberRoom (numbered_as true p modules.now) count rows.old kinds.old }
-    ensures { (p : Project) → ModuleChains p modules.now items.now next.now heads.now
-        → Numbered p (numbered_as true p modules.now) count rows.old kinds.old rows.new kinds.new result }
-{
-    let mut n = count;
-    let mut i = 0;
-    while i < modules.len() {
-        let m = modules[i] as usize;
-        n = number_rows(items, next, heads[m], true, rows, kinds, n);
-        i += 1;
-    }
-    n
-}
-
-// How many items of a group are uninjected, and how many there are.
-#[derive(Clone, Copy)]
-pub struct Split {
-    pub uninjected: usize,
-    pub count: usize,
-}
-
-// Splits the kept items of modules: numbers them, with the kinds, the ranges and their starts. An injected number has no range.
-pub fn split_items(
-    items: &[u8],
-    next: &[u16],
-    heads: &[u16],
-    modules: &[u8],
-    rows: &mut [u16],
-    kinds: &mut [u8],
-    low: &mut [u16],
-    high: &mut [u16],
-    starts: &mut [u16],
-) -> Split
-    requires { (p : Project) × ModuleChains p modules.now items.now next.now heads.now
-        × SplitRoom p modules.now rows.old kinds.old low.old high.old starts.old }
-    ensures { (p : Project) → ModuleChains p modules.now items.now next.now heads.now
-        → SplitRoom p modules.now rows.old kinds.old low.old high.old starts.old
-        → Splits p modules.now rows.new kinds.new low.new high.new starts.new result
-        × SplitStored p modules.now rows.old kinds.old low.old high.old starts.old
-        rows.new kinds.new low.new high.new starts.new }
-{
-    let uninjected = number_uninjected(items, next, heads, modules, rows, kinds, low, high, starts);
-    let count = number_injected(items, next, heads, modules, rows, kinds, uninjected);
-    fill(low, uninjected, count, 0);
-    fill(high, uninjected, count, 0);
-    Split { uninjected, count }
-}
-
 // Puts the numbers from `low` on and below `high` in front of a list, the lowest foremost; the list's end then.
 fn push_numbers(low: usize, high: usize, list: &mut [u16], end: usize) -> usize
     requires { (high ≤ 65536) × (end + (high - low) ≤ length list.old) }
     ensures { Pushed (up_from low (high - low)) list.old end list.new result }
 {
     let mut n = end;
-    let mut x = high;
-    while low < x {
-        x -= 1;
+    for x in (low..high).rev() {
         list[n] = x as u16;
         n += 1;
-    }
-    n
-}
-
-// Puts the range holding each start in front of a list, that of the first start foremost; the list's end then. Where no range holds it, there are
-// no numbers from `low` on and below `high`.
-fn push_ranges(low: &[u16], high: &[u16], starts: &[u16], list: &mut [u16], end: usize) -> usize
-    requires { (g : Group) × RangesListable g low.now high.now starts.now list.old end }
-    ensures { (g : Group) → RangesListable g low.now high.now starts.now list.old end
-        → Pushed (held_by g starts.now) list.old end list.new result }
-{
-    let mut n = end;
-    let mut i = starts.len();
-    while 0 < i {
-        i -= 1;
-        let x = starts[i] as usize;
-        n = push_numbers(low[x] as usize, high[x] as usize, list, n);
     }
     n
 }
@@ -202,23 +40,171 @@ pub fn push_entries(entries: &[u16], list: &mut [u16], end: usize) -> usize
     ensures { Pushed entries.now list.old end list.new result }
 {
     let mut n = end;
-    let mut i = entries.len();
-    while 0 < i {
-        i -= 1;
-        list[n] = entries[i];
+    for &x in entries.iter().rev() {
+        list[n] = x;
         n += 1;
     }
     n
 }
 
-// Writes the walk's first list, its front at the end index; the end. "The list starts as all starts; then, per start, the range holding it, if any;
-// then the injected items." `starts` has one entry for each module.
-pub fn first_list(low: &[u16], high: &[u16], starts: &[u16], s: Split, list: &mut [u16]) -> usize
-    requires { (g : Group) × Listable g low.now high.now starts.now s list.old }
-    ensures { (g : Group) → Listable g low.now high.now starts.now s list.old
-        → FirstListed g list.old list.new result }
-{
-    let injected = push_numbers(s.uninjected, s.count, list, 0);
-    let ranges = push_ranges(low, high, starts, list, injected);
-    push_entries(starts, list, ranges)
+// The split on arrays. Of each number below `count` there are the row, the kind and the range of its module, from `low` to `high` without `high`. The
+// injected numbers, those from `uninjected` on, have no range. Of each module there is the start of its range.
+#[derive(Drop)]
+pub struct Split {
+    pub rows: [u16; Layout::ITEM_ROOM],
+    pub kinds: [u8; Layout::ITEM_ROOM],
+    pub low: [u16; Layout::ITEM_ROOM],
+    pub high: [u16; Layout::ITEM_ROOM],
+    pub starts: [u16; Layout::MODULE_ROOM],
+    pub modules: usize,
+    pub uninjected: usize,
+    pub count: usize,
+    pub ghost sizes: { (length rows ≡ item_limit) × (length kinds ≡ item_limit) × (length low ≡ item_limit) × (length high ≡ item_limit) × (length starts ≡ module_limit) },
+    pub ghost counts: { (uninjected ≤ count) × (count ≤ item_limit) × (modules ≤ module_limit) },
+}
+
+impl Split {
+    ghost use Rattle.std.specs.Prelude.{false, true};
+    ghost use Rattle.rules.specs.Items.{Group, first_list};
+    ghost use Rattle.rules.specs.Calls.{item_list_limit};
+    ghost use Rattle.lists.specs.Arrays.{Zeros};
+    ghost use Rattle.split.specs.Rows.{RowsShown, rows_as, numbered_as};
+    ghost use Rattle.split.specs.Splits.{Numbered, SameRanges, SameNumbers, RangeNoted, RangesNumbered, InjectedNumbered, Splittable, Splits, SplitStored};
+    ghost use Rattle.split.specs.FirstLists.{held_by, starts_on, Listable, FirstListed};
+
+    // No items.
+    pub fn new() -> Self
+        ensures counts { (result.modules ≡ 0) × (result.uninjected ≡ 0) × (result.count ≡ 0) }
+        ensures zeros { Zeros item_limit result.rows × Zeros item_limit result.kinds × Zeros item_limit result.low × Zeros item_limit result.high
+            × Zeros module_limit result.starts }
+    {
+        Self {
+            rows: [0; Layout::ITEM_ROOM],
+            kinds: [0; Layout::ITEM_ROOM],
+            low: [0; Layout::ITEM_ROOM],
+            high: [0; Layout::ITEM_ROOM],
+            starts: [0; Layout::MODULE_ROOM],
+            modules: 0,
+            uninjected: 0,
+            count: 0,
+        }
+    }
+
+    // Numbers the kept rows of a module that are injected, or those that are not.
+    fn number_rows(&mut self, items: &ItemRows, m: ModuleId, injected: bool)
+        requires { (p : Project) × RowsShown p items.now × (m.0 < module_limit) × (self.old.count + length (rows_as injected p m.0) ≤ item_limit) }
+        ensures numbered { (p : Project) → RowsShown p items.now → Numbered p (rows_as injected p m.0) self.old self.new }
+        ensures ranges { SameRanges self.old self.new }
+    {
+        let mut n = self.count;
+        for row in items.rows_of(m) {
+            let kind = ItemRow::nth(items.section, row).kind;
+            if is_kept_as(kind, injected) {
+                self.rows[n] = row as u16;
+                self.kinds[n] = kind.0;
+                n += 1;
+            }
+        }
+        self.count = n;
+    }
+
+    // Notes the range of the next module: its numbers are those from `start` on.
+    fn note_range(&mut self, start: usize)
+        requires { (start ≤ self.old.count) × (self.old.modules < module_limit) }
+        ensures noted { RangeNoted start self.old self.new }
+        ensures numbers { SameNumbers self.old self.new }
+    {
+        let end = self.count;
+        self.low[start..end].fill(start as u16);
+        self.high[start..end].fill(end as u16);
+        let module = self.modules;
+        self.starts[module] = start as u16;
+        self.modules = module + 1;
+    }
+
+    // Numbers the uninjected rows of each module from 0 on, and notes its range.
+    fn number_uninjected(&mut self, items: &ItemRows, modules: &[u8])
+        requires { (p : Project) × RowsShown p items.now × Splittable p modules.now }
+        ensures { (p : Project) → RowsShown p items.now → Splittable p modules.now → RangesNumbered p modules.now self.old self.new }
+    {
+        self.uninjected = 0;
+        self.count = 0;
+        self.modules = 0;
+        for &m in modules {
+            let start = self.count;
+            self.number_rows(items, ModuleId(m), false);
+            self.note_range(start);
+        }
+        self.uninjected = self.count;
+    }
+
+    // Numbers the injected rows of each module behind them. These have no range.
+    fn number_injected(&mut self, items: &ItemRows, modules: &[u8])
+        requires { (p : Project) × RowsShown p items.now × Splittable p modules.now
+            × (self.old.count + length (numbered_as true p modules.now) ≤ item_limit) }
+        ensures { (p : Project) → RowsShown p items.now → Splittable p modules.now → InjectedNumbered p modules.now self.old self.new }
+    {
+        let first = self.count;
+        for &m in modules {
+            self.number_rows(items, ModuleId(m), true);
+        }
+        let end = self.count;
+        self.low[first..end].fill(0);
+        self.high[first..end].fill(0);
+    }
+
+    // Splits the kept items of modules.
+    pub fn split_items(&mut self, items: &ItemRows, modules: &[u8])
+        requires { (p : Project) × RowsShown p items.now × Splittable p modules.now }
+        ensures { (p : Project) → RowsShown p items.now → Splittable p modules.now
+            → Splits p modules.now self.new × SplitStored p modules.now self.old self.new }
+    {
+        self.number_uninjected(items, modules);
+        self.number_injected(items, modules);
+    }
+
+    // The starts of the modules.
+    fn starts(&self) -> &[u16]
+        ensures { result.now ≡ starts_on self.now }
+    {
+        &self.starts[..self.modules]
+    }
+
+    // The length of the walk's first list: the starts, the ranges that hold them and the injected items.
+    pub fn first_len(&self) -> usize
+        requires { (g : Group) × Listable g self.now × (length (first_list g) ≤ item_list_limit) }
+        ensures { (g : Group) → Listable g self.now → result ≡ length (first_list g) }
+    {
+        let mut n = self.modules + (self.count - self.uninjected);
+        for &start in self.starts() {
+            let x = start as usize;
+            n += (self.high[x] - self.low[x]) as usize;
+        }
+        n
+    }
+
+    // Puts the range holding each start in front of a list, that of the first start foremost; the list's end then. Where no range holds it, there are no
+    // numbers from `low` on and below `high`.
+    fn push_ranges(&self, list: &mut [u16], end: usize) -> usize
+        requires { (g : Group) × Listable g self.now × (end + length (held_by g (starts_on self.now)) ≤ length list.old) }
+        ensures { (g : Group) → Listable g self.now → Pushed (held_by g (starts_on self.now)) list.old end list.new result }
+    {
+        let mut n = end;
+        for &start in self.starts().iter().rev() {
+            let x = start as usize;
+            n = push_numbers(self.low[x] as usize, self.high[x] as usize, list, n);
+        }
+        n
+    }
+
+    // Writes the walk's first list, its front at the end index; the end. "The list starts as all starts; then, per start, the range holding it, if any;
+    // then the injected items."
+    pub fn first_list(&self, list: &mut [u16]) -> usize
+        requires { (g : Group) × Listable g self.now × (length (first_list g) ≤ length list.old) }
+        ensures { (g : Group) → Listable g self.now → FirstListed g list.old list.new result }
+    {
+        let injected = push_numbers(self.uninjected, self.count, list, 0);
+        let ranges = self.push_ranges(list, injected);
+        push_entries(self.starts(), list, ranges)
+    }
 }

@@ -1,38 +1,45 @@
--- `order::sort_groups` meets its contract: its parts in turn. Assumes nothing.
-use Rattle.std.proofs.Common.{refl}
-use Rattle.rules.specs.Project.{module_limit}
-use Rattle.lists.specs.ArrayLaws.{zeros-replicate}
-use Rattle.order.specs.LoopLaws.{turn_end}
-use Rattle.order.specs.ReadyLaws.{chainable, ready, resuming}
+-- `sort_groups` meets its contract: its parts in turn. Assumes nothing.
+use Rattle.std.proofs.Common.{ℕ, List}
+use Rattle.rules.specs.Project.{Project}
+use Rattle.order.specs.Turns.{Ready}
+use Rattle.order.specs.Orders.{Orderable}
+use Rattle.order.specs.LoopLaws.{turn_end, none-left}
+use Rattle.order.specs.ReadyLaws.{ready, notable, going}
+use Rattle.order.specs.OrderLaws.{turns-finished}
 use Rattle.order.proofs.sort_groups.Goals as goal
+use Rattle.order.proofs.sort_groups.Goals.{After-givers}
 
-pub chain_rows-requires : goal.chain_rows-requires
-chain_rows-requires c =
-    (c.requires.0, chainable c.requires.2 refl refl (zeros-replicate module_limit))
+-- what every turn relies on
+all : (c : After-givers) {p : Project} {gs : List (List ℕ)}
+    → Orderable p gs c.args.items.now c.args.imports.now c.args.needs.now c.args.groups.now c.args.count c.args.out.now
+    → Ready p gs record { items = c.new.result; importers = c.importers.result; givers = c.givers.result }
+all c {p} o = ready o (c.new.ensures p o.accepted o.items-are) c.importers.ensures c.givers.ensures
 
 pub keep_groups-first-requires : goal.keep_groups-first-requires
-keep_groups-first-requires c = (
-  c.requires.0,
-  c.requires.1,
-  ready c.requires.2 _ _ (c.chain_rows.ensures c.requires.0 (chainable c.requires.2 refl refl (zeros-replicate module_limit))) c.importers-importers.ensures c.givers-givers.ensures,
-)
+keep_groups-first-requires c =
+    let o = c.requires.2 in
+    (c.requires.0, c.requires.1, all (goal.at.keep_groups-first-requires c).After-givers o, o.bytes-are, o.count-is, o.out-size)
 
 pub returns-then-first-eq0 : goal.returns-then-first-eq0
 returns-then-first-eq0 c =
     λ p gs o.
-    let r = ready o _ _ (c.chain_rows.ensures p (chainable o refl refl (zeros-replicate module_limit))) c.importers-importers.ensures c.givers-givers.ensures in
-    turn_end r (c.keep_groups-first.ensures p gs c.args.allowance r) c.if-first-eq0.true
+    let turns = all (goal.at.returns-then-first-eq0 c).After-givers o in
+    let s = c.keep_groups-first.ensures p gs c.args.allowance turns o.bytes-are o.count-is o.out-size in
+    turns-finished {entries = 0} (turn_end (none-left s.place c.if-first-eq0.true))
 
 pub sort_rest-requires : goal.sort_rest-requires
 sort_rest-requires c =
+    let p = c.requires.0 in
+    let gs = c.requires.1 in
     let o = c.requires.2 in
-    let r = ready o _ _ (c.chain_rows.ensures c.requires.0 (chainable o refl refl (zeros-replicate module_limit))) c.importers-importers.ensures c.givers-givers.ensures in
+    let turns = all (goal.at.sort_rest-requires c).After-givers o in
     let kept = c.keep_groups-first in
-    (c.requires.0, c.requires.1, c.args.out.now, resuming o r kept.auto.out (kept.ensures c.requires.0 c.requires.1 c.args.allowance r))
+    (p, gs, c.args.out.now, going o turns (c.new-owners.ensures gs (notable o)) kept.auto.out (kept.ensures p gs c.args.allowance turns o.bytes-are o.count-is o.out-size))
 
 pub returns : goal.returns
 returns c =
     λ p gs o.
-    let r = ready o _ _ (c.chain_rows.ensures p (chainable o refl refl (zeros-replicate module_limit))) c.importers-importers.ensures c.givers-givers.ensures in
+    let turns = all (goal.at.returns c).After-givers o in
     let kept = c.keep_groups-first in
-    c.sort_rest.ensures p gs c.args.out.now (resuming o r kept.auto.out (kept.ensures p gs c.args.allowance r))
+    c.sort_rest.ensures p gs c.args.out.now
+    (going o turns (c.new-owners.ensures gs (notable o)) kept.auto.out (kept.ensures p gs c.args.allowance turns o.bytes-are o.count-is o.out-size))

@@ -1,90 +1,48 @@
--- `order::sort_rest` meets its contract: its parts in turn. Assumes nothing.
-use Rattle.std.proofs.Common.{arith}
-use Rattle.rules.specs.Project.{module_limit}
-use Rattle.lists.specs.ArrayLaws.{zeros-replicate}
-use Rattle.order.specs.LoopLaws.{turns-ended, turns-crowded}
-use Rattle.order.specs.ReadyLaws.{notable, few-items, few-needs, owning, owning-on}
+-- `sort_rest` meets its contract. Assumes nothing.
+use Rattle.std.proofs.Common.{ℕ, List, arith}
+use Rattle.rules.specs.Project.{Project}
+use Rattle.order.specs.Stops.{Going, Sized}
+use Rattle.order.specs.ReadyLaws.{sized, going-on}
+use Rattle.order.specs.OrderLaws.{turns-finished, turns-spent, turns-full, turns-crowded}
 use Rattle.order.proofs.sort_rest.Goals as goal
+use Rattle.order.proofs.sort_rest.Goals.{Else-needs-gt-NEED_BYTES}
 
-pub note_owners-requires : goal.note_owners-requires
-note_owners-requires c =
-    (c.requires.1, notable c.requires.3 (zeros-replicate module_limit))
+-- small arrays are large enough
+small : (c : Else-needs-gt-NEED_BYTES) {p : Project} {groups : List (List ℕ)} {before : List ℕ}
+    → Going p groups c.args.turns.now c.args.needs.now c.args.owners.now c.args.allowance before c.args.out.now c.args.first → Sized 256 512 p
+small c h = sized h 128 512 256 (omega (arith, c.if-turns-gt-ITEM_BYTES.false)) (omega (arith, c.if-needs-gt-NEED_BYTES.false)) (omega arith)
 
-pub sort_large-requires : goal.sort_large-requires
-sort_large-requires c =
-    let r = c.requires.3 in (
-      c.requires.0,
-      c.requires.1,
-      c.requires.2,
-      owning r (c.note_owners.ensures c.requires.1 (notable r (zeros-replicate module_limit))),
-      r.ready.accepted.items-most,
-      r.ready.accepted.needs-most,
-    )
+pub take_turns-requires-clause-going : goal.take_turns-requires-clause-going
+take_turns-requires-clause-going c =
+    let known = c.requires in
+    (known.0, known.1, known.2, known.3, small (goal.at.take_turns-requires-clause-going c).Else-needs-gt-NEED_BYTES known.3)
 
-pub returns-then-items-gt-ITEM_BYTES : goal.returns-then-items-gt-ITEM_BYTES
-returns-then-items-gt-ITEM_BYTES c =
-    λ p groups before r.
-    c.sort_large.ensures p groups before (owning r (c.note_owners.ensures groups (notable r (zeros-replicate module_limit))))
-    r.ready.accepted.items-most r.ready.accepted.needs-most
+pub sort_large-requires-in-Err-Crowded : goal.sort_large-requires-in-Err-Crowded
+sort_large-requires-in-Err-Crowded c =
+    let known = c.requires in
+    let fits = small (goal.at.sort_large-requires-in-Err-Crowded c).Else-needs-gt-NEED_BYTES known.3 in
+    let crowded = turns-crowded (rw c.in-Err-Crowded.field-0-is at (c.in-Err-Crowded.ensures known.0 known.1 known.2 known.3 fits)) in
+    (known.0, known.1, known.2, going-on known.3 c.take_turns.auto.out crowded.1)
 
-pub sort_large-requires-then-needs-gt-NEED_BYTES : goal.sort_large-requires-then-needs-gt-NEED_BYTES
-sort_large-requires-then-needs-gt-NEED_BYTES c =
-    let r = c.requires.3 in (
-      c.requires.0,
-      c.requires.1,
-      c.requires.2,
-      owning r (c.note_owners.ensures c.requires.1 (notable r (zeros-replicate module_limit))),
-      r.ready.accepted.items-most,
-      r.ready.accepted.needs-most,
-    )
+pub returns-in-Ok : goal.returns-in-Ok
+returns-in-Ok c =
+    λ p groups before h. turns-finished (c.in-Ok.ensures p groups before h (small (goal.at.returns-in-Ok c).Else-needs-gt-NEED_BYTES h))
 
-pub returns-then-needs-gt-NEED_BYTES : goal.returns-then-needs-gt-NEED_BYTES
-returns-then-needs-gt-NEED_BYTES c =
-    λ p groups before r.
-    c.sort_large-then-needs-gt-NEED_BYTES.ensures p groups before (owning r (c.note_owners.ensures groups (notable r (zeros-replicate module_limit))))
-    r.ready.accepted.items-most r.ready.accepted.needs-most
+pub returns-in-Err-Spent : goal.returns-in-Err-Spent
+returns-in-Err-Spent c =
+    λ p groups before h.
+    let fits = small (goal.at.returns-in-Err-Spent c).Else-needs-gt-NEED_BYTES h in
+    turns-spent (rw c.in-Err-Spent.field-0-is at (c.in-Err-Spent.ensures p groups before h fits))
 
-pub sort_small-turns-requires : goal.sort_small-turns-requires
-sort_small-turns-requires c =
-    let r = c.requires.3 in (
-      c.requires.0,
-      c.requires.1,
-      c.requires.2,
-      owning r (c.note_owners.ensures c.requires.1 (notable r (zeros-replicate module_limit))),
-      few-items r 128 (omega (arith, c.if-items-gt-ITEM_BYTES.false)),
-      few-needs r 512 (omega (arith, c.if-needs-gt-NEED_BYTES.false)),
-    )
+pub returns-in-Err-Full : goal.returns-in-Err-Full
+returns-in-Err-Full c =
+    λ p groups before h.
+    let fits = small (goal.at.returns-in-Err-Full c).Else-needs-gt-NEED_BYTES h in
+    turns-full (rw c.in-Err-Full.field-0-is at (c.in-Err-Full.ensures p groups before h fits))
 
-pub sort_large-requires-in-Crowded : goal.sort_large-requires-in-Crowded
-sort_large-requires-in-Crowded c =
-    let r = c.requires.3 in
-    let o = owning r (c.note_owners.ensures c.requires.1 (notable r (zeros-replicate module_limit))) in
-    let turned =
-    c.sort_small-turns.ensures c.requires.0 c.requires.1 c.requires.2 o (few-items r 128 (omega (arith, c.if-items-gt-ITEM_BYTES.false)))
-    (few-needs r 512 (omega (arith, c.if-needs-gt-NEED_BYTES.false))) in (
-      c.requires.0,
-      c.requires.1,
-      c.requires.2,
-      owning-on o c.sort_small-turns.auto.out (turns-crowded turned c.in-Crowded.is).1,
-      r.ready.accepted.items-most,
-      r.ready.accepted.needs-most,
-    )
-
-pub returns-in-Ended : goal.returns-in-Ended
-returns-in-Ended c =
-    λ p groups before r.
-    turns-ended
-    (c.sort_small-turns.ensures p groups before (owning r (c.note_owners.ensures groups (notable r (zeros-replicate module_limit))))
-    (few-items r 128 (omega (arith, c.if-items-gt-ITEM_BYTES.false))) (few-needs r 512 (omega (arith, c.if-needs-gt-NEED_BYTES.false))))
-    c.in-Ended.is
-
-pub returns-in-Crowded : goal.returns-in-Crowded
-returns-in-Crowded c =
-    λ p groups before r.
-    let o = owning r (c.note_owners.ensures groups (notable r (zeros-replicate module_limit))) in
-    let turned =
-    c.sort_small-turns.ensures p groups before o (few-items r 128 (omega (arith, c.if-items-gt-ITEM_BYTES.false)))
-    (few-needs r 512 (omega (arith, c.if-needs-gt-NEED_BYTES.false))) in
-    c.sort_large-in-Crowded.ensures p groups before
-    (owning-on o c.sort_small-turns.auto.out (turns-crowded turned c.in-Crowded.is).1)
-    r.ready.accepted.items-most r.ready.accepted.needs-most
+pub returns-in-Err-Crowded : goal.returns-in-Err-Crowded
+returns-in-Err-Crowded c =
+    λ p groups before h.
+    let fits = small (goal.at.returns-in-Err-Crowded c).Else-needs-gt-NEED_BYTES h in
+    let crowded = turns-crowded (rw c.in-Err-Crowded.field-0-is at (c.in-Err-Crowded.ensures p groups before h fits)) in
+    c.sort_large-in-Err-Crowded.ensures p groups before (going-on h c.take_turns.auto.out crowded.1)

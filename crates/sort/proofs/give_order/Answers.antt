@@ -2,22 +2,18 @@ use native.Mathlib.Omega.{arith}
 use mathlib.Core.Path.{subst}
 use lib.ListN.{length-take}
 use Rattle.sort.specs.Orders.{Givable}
-use Rattle.sort.specs.OrderLaws.{rows-within, gives-order, gives-spent, gives-full}
+use Rattle.sort.specs.OrderLaws.{rows-within, gives-order, gives-stopped}
 use Rattle.sort.proofs.give_order.Goals as goal
 
 pub slice_bounds-copy_front-end : goal.slice_bounds-copy_front-end
 slice_bounds-copy_front-end c =
-    let g = subst (Givable _ _ _ _ _) c.in-Finished.is c.requires.2 in
+    let g = subst (Givable _ _ _ _ _) c.in-Ok.is c.requires.2 in
     simp length-take (omega (arith, rows-within g))
 
-pub returns-in-Finished : goal.returns-in-Finished
-returns-in-Finished c p stop h =
-    gives-order _ (subst (Givable p stop _ _ _) c.in-Finished.is h) c.copy_front.ensures
+pub returns-in-Ok : goal.returns-in-Ok
+returns-in-Ok c p stop h =
+    gives-order _ (subst (Givable p stop _ _ _) c.in-Ok.is h) c.copy_front.ensures
 
-pub returns-in-Spent : goal.returns-in-Spent
-returns-in-Spent c p stop h =
-    rw c.refusal.ensures (gives-spent _ (subst (Givable p stop _ _ _) c.in-Spent.is h))
-
-pub returns-in-Full : goal.returns-in-Full
-returns-in-Full c p stop h =
-    rw c.refusal-in-Full.ensures (gives-full _ (subst (Givable p stop _ _ _) c.in-Full.is h))
+pub returns-in-Err : goal.returns-in-Err
+returns-in-Err c p stop h =
+    rw (c.refusal.ensures, c.into.ensures, c.stopped-why.ensures) (gives-stopped c.args.module_visits (subst (Givable p stop _ _ _) c.in-Err.is h))

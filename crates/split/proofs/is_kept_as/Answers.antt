@@ -1,5 +1,5 @@
 -- `split::is_kept_as` meets its contract. Assumes nothing.
-use Rattle.split.specs.SplitLaws.{kept-asked}
+use Rattle.split.specs.RowLaws.{kept-asked}
 use Rattle.split.proofs.is_kept_as.Goals as goal
 
 pub returns : goal.returns

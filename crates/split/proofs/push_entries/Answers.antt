@@ -1,13 +1,8 @@
-use Prim.Native.Nat.{◌<◌}
-use native.Mathlib.Omega.{arith}
-use lib.ListN.{length, length-set}
-use Rattle.split.specs.FirstListLaws.{entries-room, entries-turn}
+use Rattle.std.proofs.Common.{arith}
+use Rattle.split.specs.PushLaws.{entry-room, entry-next}
 use Rattle.split.proofs.push_entries.Goals as goal
 
-pub loop-i-preserved : goal.loop-i-preserved
-loop-i-preserved c =
-    let room : c.loop-i.n < length c.loop-i.list = let head = c.loop-i in
-    omega (arith, c.requires, head.invariant.0, entries-room c.args.entries.now head.i head.invariant.2 head.invariant.1) in
-    let head = c.loop-i in
-    let a = c.args in
-    (simp length-set head.invariant.0, omega arith, entries-turn a.entries.now head.i (omega arith) head.invariant.1 (room) head.invariant.2)
+pub loop-x-preserved : goal.loop-x-preserved
+loop-x-preserved c =
+    let room = entry-room c.loop-x.invariant.2 _ _ c.in-Some.ensures.steps (omega (arith, c.requires)) in
+    (tt, tt, entry-next c.loop-x.invariant.2 _ c.in-Some.ensures.steps room)

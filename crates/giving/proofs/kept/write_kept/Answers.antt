@@ -1,69 +1,54 @@
-use Prim.Native.Nat.{ℕ, ◌-◌, ◌≤◌}
-use native.Mathlib.Omega.{arith}
-use mathlib.Core.Path.{◌≡◌, refl, sym, ap, ◌∙◌}
-use lib.ListN.{length}
+use Rattle.std.proofs.Common.{arith, sym, ap, ◌∙◌, ◌<◌, ◌≡◌, length}
 use Rattle.rules.specs.Project.{Project}
+use Rattle.rules.specs.Items.{is_kept, kind_at}
 use Rattle.project.specs.declared.sections.ItemRow.{ItemRow}
-use Rattle.rules.specs.Items.{is_kept, kind_at, kept_rows_of}
-use Rattle.split.specs.Splits.{RowsAlong}
-use Rattle.split.specs.SplitLaws.{kind-read, kind-room, rows-less}
-use Rattle.giving.specs.StoreLaws.{storing-start, storing-as, storing-room, storing-one, storing-end}
-use Rattle.giving.specs.KeptLaws.{kept-start, kept-one, kept-past, kept-end}
+use Rattle.split.specs.Rows.{RowsShown}
+use Rattle.split.specs.RowLaws.{kind-read, row-room}
+use Rattle.giving.specs.KeptLaws.{writing-start, writing-below, writing-room, writing-one, writing-past, writing-end}
 use Rattle.giving.proofs.kept.write_kept.Goals as goal
-use Rattle.giving.proofs.kept.write_kept.Goals.{In-loop-e, After-is_kept, then-is_kept, else-is_kept}
+use Rattle.giving.proofs.kept.write_kept.Goals.{In-Some, After-is_kept}
 
--- what the contract requires, at an entry of the chain: it is one more than a row of the module
-along : (c : In-loop-e) → RowsAlong c.requires.0 c.requires.1 c.args.items.now c.args.next.now c.args.head
-along c = c.requires.2
-
-most : (c : In-loop-e) → c.loop-e.e ≤ length c.requires.0.items
-most c = (c.loop-e.invariant.1 c.requires.0 c.requires.1 (along c)).0
-
--- the test of a row, as the code makes it
-kept_here : (c : After-is_kept) (p : Project) (m : ℕ) → RowsAlong p m c.args.items.now c.args.next.now c.args.head
-    → is_kept (kind_at p (c.loop-e.e - 1)) ≡ c.is_kept.result
-kept_here c p m h =
-    ap is_kept (kind-read h (c.loop-e.e - 1) (omega (arith, (c.loop-e.invariant.1 p m h).0)))
-    ∙ sym (ap (λ (r : ItemRow). is_kept r.kind.0) c.nth.ensures) ∙ sym c.is_kept.ensures
-
-pub loop-e-init : goal.loop-e-init
-loop-e-init c =
+pub loop-row-init : goal.loop-row-init
+loop-row-init c =
     let a = c.args in
-    (refl, λ p m h. (h.head-most, storing-as (storing-start (kept_rows_of p m) a.start a.out.now) (sym (kept-start h))))
+    rw (c.into_iter-row-iterator.ensures.into_iter_gives, c.rows_of-row-items.ensures.next, c.rows_of-row-items.ensures.entry)
+    (tt, tt, λ p h. rw (h.along a.m.0 c.requires.2) (writing-start p a.m.0 a.start a.out.now h))
+
+-- the row is one of the items
+below : (c : In-Some) {p : Project} → RowsShown p c.args.items.now → c.in-Some.row < length p.items
+below c {p} h = writing-below p c.args.m.0 c.args.start c.args.out.now (c.loop-row.invariant.2 p h) c.in-Some.row _ c.in-Some.ensures.steps
 
 pub nth-requires : goal.nth-requires
-nth-requires c =
-    let head = (goal.at.nth-requires c).In-loop-e in
-    omega (arith, kind-room (along head) (c.loop-e.e - 1) (omega (arith, most head)))
+nth-requires c = row-room c.requires.1 c.in-Some.row (below (goal.at.nth-requires c).In-Some c.requires.1)
+
+-- whether it is kept
+test : (c : After-is_kept) {p : Project} → RowsShown p c.args.items.now → is_kept (kind_at p c.in-Some.row) ≡ c.is_kept.result
+test c {p} h =
+    let k = writing-below p c.args.m.0 c.args.start c.args.out.now (c.loop-row.invariant.2 p h) c.in-Some.row _ c.in-Some.ensures.steps in
+    ap is_kept (kind-read h c.in-Some.row k) ∙ sym (ap (λ (r : ItemRow). is_kept r.kind.0) c.nth.ensures) ∙ sym c.is_kept.ensures
+
+pub overflow_cast-out : goal.overflow_cast-out
+overflow_cast-out c = omega (arith, below (goal.at.overflow_cast-out c).In-Some c.requires.1, c.requires.1.most)
 
 pub bounds-out-n : goal.bounds-out-n
 bounds-out-n c =
-    let p = c.requires.0 in
-    let m = c.requires.1 in
-    let h = c.requires.2 in
-    let at_head = c.loop-e.invariant.1 p m h in
-    let here = kept_here (goal.at.bounds-out-n c).After-is_kept p m h ∙ c.if-is_kept.true in
-    storing-room at_head.1 (kept-one h c.loop-e.e (omega arith) at_head.0 here) c.requires.3
+    let a = c.args in
+    writing-room c.requires.0 a.m.0 a.start a.out.now (c.loop-row.invariant.2 c.requires.0 c.requires.1) c.in-Some.row _ c.in-Some.ensures.steps
+    (test (goal.at.bounds-out-n c).After-is_kept c.requires.1 ∙ c.if-is_kept.true) c.requires.3
 
-pub loop-e-smaller : goal.loop-e-smaller
-loop-e-smaller c =
-    let head = (goal.at.loop-e-smaller c).In-loop-e in
-    rows-less (along head) c.loop-e.e (omega arith) (most head)
+pub loop-row-preserved-then-is_kept : goal.loop-row-preserved-then-is_kept
+loop-row-preserved-then-is_kept c =
+    let a = c.args in
+    let at_test = (goal.at.loop-row-preserved-then-is_kept c).After-is_kept in
+    (tt, tt, λ p h. writing-one p a.m.0 a.start a.out.now (c.loop-row.invariant.2 p h) c.in-Some.row _ c.in-Some.ensures.steps (test at_test h ∙ c.if-is_kept.true))
 
-pub loop-e-preserved : goal.loop-e-preserved
-loop-e-preserved c = (
-  c.if-is_kept.auto.out ∙ c.loop-e.invariant.0,
-  λ p m h.
-      let at_head = c.loop-e.invariant.1 p m h in
-      let test = kept_here (goal.at.loop-e-preserved c).After-is_kept p m h in (
-        (h.next-onward (c.loop-e.e - 1) (omega (arith, at_head.0))).1,
-        elim c.if-is_kept.branch [
-          | then-is_kept w ↦ rw (w.out-is, w.n-is) (storing-one at_head.1 (kept-one h c.loop-e.e (omega arith) at_head.0 (test ∙ w.if-is_kept.true)))
-          | else-is_kept w ↦ rw (w.out-is, w.n-is) (storing-as at_head.1 (kept-past h c.loop-e.e (omega arith) at_head.0 (test ∙ w.if-is_kept.false)))
-        ],
-      ),
-)
+pub loop-row-preserved : goal.loop-row-preserved
+loop-row-preserved c =
+    let a = c.args in
+    let at_test = (goal.at.loop-row-preserved c).After-is_kept in
+    (tt, tt, λ p h. writing-past p a.m.0 a.start a.out.now (c.loop-row.invariant.2 p h) c.in-Some.row _ c.in-Some.ensures.steps (test at_test h ∙ c.if-is_kept.false))
 
 pub returns : goal.returns
 returns c =
-    λ p m h. storing-end (c.loop-e.invariant.1 p m h).1 (kept-end p _ c.loop-e.e c.loop-e-test.false)
+    let a = c.args in
+    λ p h. writing-end p a.m.0 a.start a.out.now (c.loop-row.invariant.2 p h) c.in-None.ensures.steps.0

@@ -1,22 +1,14 @@
--- `giving::kept::write_kept` meets its contract. The loop's invariant: with the kept rows along the rest of the chain stored the array is as it is to be.
--- The measure is the number of rows that may stand from e on. Assumes nothing.
-use Prim.Native.Nat.{ℕ, ◌/◌, ◌≤◌}
-use mathlib.Core.Path.{◌≡◌}
-use lib.ListN.{length}
+-- `giving::kept::write_kept` meets its contract. The loop's invariant: with the kept ones of the rows left stored the array is as it is to be. Assumes
+-- nothing.
 use Rattle.rules.specs.Project.{Project}
-use Rattle.rules.specs.Items.{kept_rows_of}
-use Rattle.lists.specs.ChainLaws.{left}
-use Rattle.split.specs.Splits.{RowsAlong}
-use Rattle.giving.specs.StoreLaws.{Storing}
-use Rattle.giving.specs.KeptLaws.{kept_from}
+use Rattle.lists.specs.Chained.{places}
+use Rattle.split.specs.Rows.{RowsShown}
+use Rattle.giving.specs.KeptLaws.{Writing}
 use Rattle.giving.proofs.kept.write_kept.Given as goal
 
-abbrev pub invariant-loop-e : goal.invariant-loop-e
-invariant-loop-e l =
-    (length l.out ≡ length l.initial.out)
-    × ((p : Project) (m : ℕ) → RowsAlong p m l.items l.next l.head
-    → (l.e ≤ length p.items) × Storing (kept_rows_of p m) l.start l.initial.out (kept_from p l.next l.e) l.out l.n)
-
-abbrev pub decreases-loop-e : goal.decreases-loop-e
-decreases-loop-e l =
-    left (length l.items / 2) l.e
+abbrev pub invariant-loop-row : goal.invariant-loop-row
+invariant-loop-row l =
+    (goal.iterator-loop-row).can_next l.row-iterator
+    × (goal.iterator-loop-row).is_finite l.row-iterator
+    × ((p : Project) → RowsShown p l.items
+    → Writing p l.fn.m.0 l.start l.initial.out (places l.row-iterator.next.now l.row-iterator.entry) l.out l.n)

@@ -1,0 +1,18 @@
+-- `Graph::lay_out_none` meets its contract. Assumes nothing.
+use Rattle.graph.specs.RowLaws.{rows-cleared}
+use Rattle.graph.specs.NeighbourLaws.{none-linked}
+use Rattle.rules.specs.Lists.{keep, append_new, different}
+use Rattle.rules.specs.Paths.{dependencies_of, dependants_of, in_paths, weight_in}
+use Rattle.graph.specs.Graph.{is_maybe}
+use Rattle.graph.proofs.Graph.lay_out_none.Goals as goal
+
+pub returns-clause-laid : goal.returns-clause-laid
+unfolding dependencies_of dependants_of in_paths is_maybe weight_in different append_new keep
+returns-clause-laid g c =
+    let old = c.args.self.now in
+    record {
+      dependencies = none-linked old.pairs.to old.outgoing c.clear.new.self c.clear.ensures.heads;
+      dependants = none-linked old.pairs.from old.incoming c.clear-2.new.self c.clear-2.ensures.heads;
+      paths-shown = rw c.clear_words-2.ensures (rows-cleared _ c.args.nodes old.paths);
+      weak-shown = rw c.clear_words.ensures (rows-cleared _ c.args.nodes old.weak);
+    }

@@ -1,0 +1,19 @@
+-- `Group::number_items` meets its contract. Assumes nothing.
+use Rattle.std.proofs.Common.{rules}
+use Rattle.layout.specs.NumberLaws.{row_below, numbers-noted}
+use Rattle.layout.proofs.Group.number_items.Goals as goal
+
+pub note_numbers-requires : goal.note_numbers-requires
+note_numbers-requires g c =
+    let r = c.requires in
+    let splits = (c.split_items.ensures r.0 r.1 r.2).0 in (search rules, row_below r.2 splits)
+
+pub returns-clause-numbered : goal.returns-clause-numbered
+returns-clause-numbered g c =
+    λ p shown able.
+    let splits = (c.split_items.ensures p shown able).0 in
+    let new = c.note_numbers.ensures in
+    record {
+      splits = rw new.split splits;
+      noted = rw new.split (numbers-noted able splits c.args.self.now.numbers c.args.self.now.size new.numbers);
+    }

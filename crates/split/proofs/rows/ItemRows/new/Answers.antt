@@ -1,0 +1,48 @@
+use Rattle.std.proofs.Common.{arith, rules, sym, ap, ◌∙◌, ◌-◌, ◌/◌, ◌<◌, ◌≡◌, length, get_or}
+use Rattle.rules.specs.Project.{module_limit}
+use Rattle.lists.specs.ChainLaws.{link-none, link-turn}
+use Rattle.project.specs.declared.sections.ItemRow.{ItemRow}
+use Rattle.split.proofs.RowChainLaws.{modules_in, module-at, modules-length, rows-count, module-below, rows-along}
+use Rattle.split.proofs.rows.ItemRows.new.Goals as goal
+use Rattle.split.proofs.rows.ItemRows.new.Goals.{After-nth}
+
+pub loop-row-init : goal.loop-row-init
+loop-row-init c = link-none (modules_in c.args.section.now) (length c.args.section.now / 2) c.new-chains.result.heads c.new-chains.result.next
+
+-- the key of the row, its module
+key : (c : After-nth) → get_or (modules_in c.args.section.now) (c.loop-row.row - 1) 0 ≡ c.nth.result.in_module.0
+key c = module-at c.args.section.now (c.loop-row.row - 1) (omega arith) ∙ sym (ap (λ (r : ItemRow). r.in_module.0) c.nth.ensures)
+
+below : (c : After-nth) → get_or (modules_in c.args.section.now) (c.loop-row.row - 1) 0 < module_limit
+below c = module-below c.requires.0 c.args.section.now c.requires.1 c.requires.2 (c.loop-row.row - 1) (omega arith)
+
+pub put_first-requires : goal.put_first-requires
+put_first-requires c =
+    let at_head = (goal.at.put_first-requires c).After-nth in
+    let few = rows-count c.requires.0 c.args.section.now c.requires.1 c.requires.2 in
+    (search rules, (omega (arith, key at_head, below at_head), ((omega arith, omega arith), λ some. omega (arith, (c.loop-row.invariant.heads-onward c.nth.result.in_module.0 (c.new-chains.ensures.heads _)).0 some))))
+
+pub loop-row-preserved : goal.loop-row-preserved
+loop-row-preserved c =
+    let at_head = (goal.at.loop-row-preserved c).After-nth in
+    let few = rows-count c.requires.0 c.args.section.now c.requires.1 c.requires.2 in
+    let section = c.args.section.now in
+    let chains = c.loop-row.chains in
+    rw (c.put_first.ensures.heads, c.put_first.ensures.next, ← key at_head)
+    (link-turn (modules_in section) c.new-chains.result.heads c.new-chains.result.next chains.heads chains.next (length section / 2) c.loop-row.row
+    c.loop-row-test.true (omega arith) (omega (arith, modules-length section)) (omega (arith, chains.sizes)) (omega (arith, below at_head, chains.sizes))
+    (c.new-chains.ensures.heads _) c.loop-row.invariant)
+
+pub returns : goal.returns
+returns c =
+    λ p a whole.
+    record {
+      section = whole;
+      most = a.items-most;
+      along =
+          λ m h.
+          let few = rows-count p c.args.section.now a whole in
+          let none : c.loop-row.row ≡ 0 = omega arith in
+          rows-along p c.args.section.now c.new-chains.result.heads c.new-chains.result.next c.loop-row.chains.heads c.loop-row.chains.next whole (rw none at c.loop-row.invariant)
+          (omega (arith, c.loop-row.chains.sizes)) m (omega (arith, c.loop-row.chains.sizes)) (c.new-chains.ensures.heads m);
+    }

@@ -1,0 +1,7 @@
+mod StateLaws
+mod FindLaws
+mod PrecedingLaws
+mod PushLaws
+mod VisitLaws
+mod RunLaws
+mod StartLaws
