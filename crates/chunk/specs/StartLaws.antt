@@ -1,12 +1,13 @@
 -- Laws for the proof of `toposort_real_module_ids` of src/walk.rt: the walk of a project begins, and ends as the definition's. Assumes nothing.
-use Rattle.std.specs.Prelude.{ℕ, ◌+◌, ◌<◌, ◌≡◌, refl}
-use Rattle.std.proofs.Common.{arith, subst}
+use Rattle.std.specs.Prelude.{ℕ, ◌+◌, ◌<◌, ◌≡◌, refl, take}
+use Rattle.std.proofs.Common.{arith, ap, ◌∙◌, subst}
 use mathlib.Core.List.{List, ◌∷◌, flat_map}
 use Rattle.rules.specs.Lists.{any, elem, up_from}
 use Rattle.rules.specs.Project.{Project, import_row, pair_rows}
 use Rattle.rules.specs.Modules.{ModuleState, is_done, module_list, groups_of, groups_in_order, module_start}
 use Rattle.rules.specs.Calls.{group_bytes, module_list_limit}
 use Rattle.laws.specs.ModuleWalk.{walked_start}
+use Rattle.lists.specs.Bits.{bit}
 use Rattle.lists.specs.BitLaws.{bit-zero}
 use Rattle.lists.specs.Stacks.{stack}
 use Rattle.chunk.specs.declared.arrays.Arrays.{Arrays}
@@ -18,16 +19,30 @@ use Rattle.chunk.specs.Walks.{marks_of, Started, Shows, Walking, Holds, Groupabl
 -- A list filled with the entry and the modules, and numbers that are 0.
 pub walk-started : {list : List ℕ} (modules entry : ℕ) → modules < module_list_limit → stack list (modules + 1) ≡ entry ∷ up_from 0 modules
     → Started modules entry list (record { end = modules + 1; done = 0; marks = 0; groups = 0; used = 0 })
-unfolding module_start module_list groups_of groups_in_order marks_of is_done any elem group_bytes flat_map
-walk-started modules entry most filled p e f a same =
+unfolding module_start module_list
+walk-started modules entry most filled =
     record {
-      entries = rw (same, e, f) filled;
+      entries = λ p e f. rw (e, f) filled;
       within = omega arith;
-      done = bit-zero;
-      marks = bit-zero;
-      count = refl;
+      done = refl;
+      marks = refl;
+      groups = refl;
       used = refl;
-      bytes = refl;
+    }
+
+-- With an array that holds the list, whatever stands where the groups will, it shows the start of such a project.
+pub start-shown : {modules entry : ℕ} {list : List ℕ} {w : ModuleWalk} → Started modules entry list w → (p : Project) → p.modules ≡ modules
+    → p.entry ≡ entry → (a : Arrays) → a.list ≡ list → Shows a w (module_start p)
+unfolding module_start groups_of groups_in_order marks_of is_done any elem group_bytes flat_map
+start-shown {w = w} s p e f a same =
+    record {
+      entries = rw same (s.entries p e f);
+      within = s.within;
+      done = λ m. ap (λ (x : ℕ). bit x m) s.done ∙ bit-zero m;
+      marks = λ m. ap (λ (x : ℕ). bit x m) s.marks ∙ bit-zero m;
+      count = s.groups;
+      used = s.used;
+      bytes = ap (λ (n : ℕ). take n a.groups) s.used;
     }
 
 module _ {p : Project} {rows section : List ℕ} {count first : ℕ} (h : Groupable p rows section count first) where
@@ -50,7 +65,7 @@ module _ {p : Project} {rows section : List ℕ} {count first : ℕ} (h : Groupa
         circles = h.circles;
         sound = h.sound;
         laid = rw h.imports l;
-        shows = s p h.modules h.entry a same;
+        shows = start-shown s p h.modules h.entry a same;
         walked = walked_start h.accepted;
       }
 

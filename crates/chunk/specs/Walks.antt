@@ -59,9 +59,15 @@ pub record Shows (a : Arrays) (w : ModuleWalk) (s : ModuleState) : Type 0 where
   pub used : w.used ≡ length (group_bytes (groups_in_order s))
   pub bytes : take w.used a.groups ≡ group_bytes (groups_in_order s)
 
--- The walk before the first visit: whatever stands where the groups will, it shows the paper's start of every project with these modules and this entry.
-abbrev pub Started : ℕ → ℕ → List ℕ → ModuleWalk → Type 0
-Started modules entry list w = (p : Project) → p.modules ≡ modules → p.entry ≡ entry → (a : Arrays) → a.list ≡ list → Shows a w (module_start p)
+-- The walk before the first visit: the list, of whatever length, is that of the paper's start of every project with these modules and this entry, and
+-- nothing is done, marked or made.
+pub record Started (modules entry : ℕ) (list : List ℕ) (w : ModuleWalk) : Type 0 where
+  pub entries : (p : Project) → p.modules ≡ modules → p.entry ≡ entry → stack list w.end ≡ module_list (module_start p)
+  pub within : w.end ≤ module_list_limit
+  pub done : w.done ≡ 0
+  pub marks : w.marks ≡ 0
+  pub groups : w.groups ≡ 0
+  pub used : w.used ≡ 0
 
 -- What a visit relies on: the project's imports and circles, and a state that the walk of the project can be in.
 pub record Walking (p : Project) (section : List ℕ) (imports : Imports) (a : Arrays) (w : ModuleWalk) (s : ModuleState) : Type 0 where

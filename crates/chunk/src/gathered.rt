@@ -8,7 +8,8 @@ ghost use Rattle.chunk.specs.Marks.{Marks, once-prop};
 use lists::bits;
 use project::{Layout, ModuleId};
 
-// The first `count` bytes, in the order in which they came, and the same as a set.
+// The first `count` bytes, in the order in which they came, and the same as a set. No `ArrayVec`: it stores its length at each push, which takes a
+// quarter more instructions (measured at `append_new`).
 #[derive(Drop)]
 pub struct Gathered {
     pub array: [u8; Layout::MODULE_ROOM],
@@ -48,7 +49,7 @@ impl Gathered {
         self.append_new(&[m.0]);
     }
 
-    // Appends the modules of a list, each once. In the loop count and set are variables: kept in `self` they take a quarter more instructions.
+    // Appends the modules of a list, each once. In the loop count and set are variables, for the same reason.
     pub fn append_new(&mut self, list: &[u8])
         requires { Below module_limit list.now }
         ensures { Appended self.old self.new list.now }

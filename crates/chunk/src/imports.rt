@@ -44,8 +44,8 @@ impl Imports {
         for row in Reader::<ImportRow>::new(section) {
             self.rows.add(
                 Layout::MODULE_ROOM,
-                row.importer.0 as u16,
-                row.imported.0 as u16,
+                u16::from(row.importer.0),
+                u16::from(row.imported.0),
             );
         }
         let rows = &self.rows;
@@ -59,7 +59,7 @@ impl Imports {
     {
         Open {
             to: &self.rows.to,
-            chain: self.chains.chain(m.0 as usize),
+            chain: self.chains.chain(usize::from(m)),
             done,
             circle,
         }
@@ -84,7 +84,8 @@ impl Imports {
             .sum()
     }
 
-    // Puts the open imports of m below `top`, the first uppermost; the index of the last.
+    // Puts the open imports of m below `top`, the first uppermost; the index of the last. How many they are only the loop tells, so that the index is
+    // taken down by hand.
     fn place_open(&self, m: ModuleId, done: u64, circle: u64, list: &mut [u8], top: usize) -> usize
         requires m_lt_module_limit { m.0 < module_limit }
         requires placeable { Placeable top (open_of self.now done circle m.0) list.old }

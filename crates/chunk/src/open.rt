@@ -1,4 +1,4 @@
-// The open imports of a module: those that are neither done nor in the circle.
+// The open imports of a module: those that are neither done nor in the circle. The two sets stay apart, as in the definition.
 ghost use Rattle.std.specs.Prelude.{ℕ, ◌<◌, ◌≡◌, get_or};
 ghost use Rattle.std.specs.Iterator.{YieldsFirstBy, item_count};
 ghost use Rattle.rules.specs.Project.{module_limit, import_limit};
@@ -37,6 +37,7 @@ impl<'a> Iterator for Open<'a> {
     ghost remaining = { item_count (λ s. open_from s.to.now s.chain.next.now s.done s.circle s.chain.entry) };
 
     fn next(&mut self) -> Option<ModuleId> {
+        // No `find` over the chain: its closure would need clauses of its own.
         while let Some(place) = self.chain.next() {
             let d = ModuleId(self.to[place] as u8);
             if is_open(d, self.done, self.circle) {

@@ -15,9 +15,10 @@ use crate::imports::Imports;
 use lists::bits;
 use project::{Layout, ModuleId};
 use std::convert::Infallible;
-use walks::{Outcome, Stop, Visits};
+use walks::{Allowance, Outcome, Stop, Visits};
 
-// The numbers of the walk's state: the end of the list, the modules done and marked, and the groups made with the bytes that they take.
+// The numbers of the walk's state: the end of the list, the modules done and marked, and the groups made with the bytes that they take. List and groups
+// are arrays with an end and no `ArrayVec`: a host gets the groups' bytes as they stand, and a list is read from its end.
 #[derive(Clone, Copy, Default)]
 pub struct ModuleWalk {
     pub end: usize,
@@ -39,7 +40,7 @@ impl ModuleWalk {
         requires { modules < length list.old }
         ensures { Started modules entry.0 list.new result }
     {
-        let n = modules as usize;
+        let n = usize::from(modules);
         for (i, m) in (0..modules).rev().enumerate() {
             list[i] = m;
         }
@@ -296,5 +297,13 @@ pub fn toposort_real_module_ids(
         section,
         imports: &laid,
     };
-    walks::run(&walk, arrays, start, allowance, 0)
+    walks::run(
+        &walk,
+        arrays,
+        start,
+        Allowance {
+            visits: allowance,
+            made: 0,
+        },
+    )
 }

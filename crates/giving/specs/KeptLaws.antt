@@ -10,7 +10,7 @@ use Rattle.rules.specs.Items.{is_kept, no_item, item_at, kind_at, kept_rows_of, 
 use Rattle.laws.specs.Lists.{∈-self}
 use Rattle.laws.specs.Counting.{Below}
 use Rattle.split.specs.declared.rows.ItemRows.{ItemRows}
-use Rattle.split.specs.Rows.{module_rows, RowsShown}
+use Rattle.split.specs.Rows.{module_rows, RowsOf}
 use Rattle.split.specs.RowLaws.{rows-below, keep-rows, positions-same, kept_rows_of-positions}
 use Rattle.split.specs.Stored.{Stored}
 use Rattle.split.specs.StoreLaws.{Storing, storing-start, storing-as, storing-room, storing-one, storing-end}
@@ -38,10 +38,10 @@ pub record Writing (p : Project) (m : ℕ) (start : ℕ) (before left now : List
   pub rows : Storing (kept_rows_of p m) start before (kept_among p left) now n
 
 module _ (p : Project) (m start : ℕ) (before : List ℕ) where
-  pub writing-start : {items : ItemRows} → RowsShown p items → Writing p m start before (module_rows p m) before start
+  pub writing-start : {items : ItemRows} → RowsOf p m items → Writing p m start before (module_rows p m) before start
   writing-start shown =
       record {
-        within = rows-below shown m;
+        within = rows-below shown;
         rows = storing-as (storing-start (kept_rows_of p m) start before) (sym (kept-all p m));
       }
 

@@ -1,5 +1,4 @@
 pub mod Giving
-pub mod GivingModules
 pub mod SetLaws
 pub mod StoreLaws
 pub mod KeptLaws

@@ -10,12 +10,13 @@ ghost use Rattle.rules.specs.Items.{keeps_row_order};
 ghost use Rattle.lists.specs.Bits.{bit};
 ghost use Rattle.giving.specs.Giving.{Members, is_importer, is_giver, giving_of, ImportersBelow, ItemsBelow, ImportersShown};
 
+use arrayvec::ArrayVec;
 use lists::bits;
 use project::reader::Reader;
 use project::sections::{ImportRow, ItemRow};
 use project::{Layout, ModuleId};
 
-// The modules that import.
+// The modules that import. One function for this and the next would take a closure, with clauses longer than both.
 pub fn importers(imports: &[u8]) -> u64
     requires { ImportersBelow (pair_rows import_row imports.now) }
     ensures { (m : ℕ) → bit result m ≡ any (is_importer m) (pair_rows import_row imports.now) }
@@ -72,36 +73,20 @@ pub fn keeps_row_order(members: &[u8], importers: u64) -> bool
     !bits::has(importers, members[0])
 }
 
-// The modules that give a group's items: the first `count` of an array.
-#[derive(Drop)]
-pub struct GivingModules {
-    pub array: [u8; Layout::MODULE_ROOM],
-    pub count: usize,
-    pub ghost within: { (length array ≡ module_limit) × (count ≤ module_limit) },
-}
-
-impl GivingModules {
-    ghost use Rattle.giving.specs.GivingModules.{giving_on};
-
-    // The members of a group that are not used and give items, last first.
-    pub fn new(members: &[u8], used: u64, givers: u64) -> Self
-        requires { Members members.now }
-        ensures { giving_on result ≡ giving_of used givers members.now }
-    {
-        let mut array = [0; Layout::MODULE_ROOM];
-        let mut count = 0;
-        for &m in members.iter().rev() {
-            if gives(used, givers, ModuleId(m)) {
-                array[count] = m;
-                count += 1;
-            }
+// The modules that give a group's items: its members that are not used and have any, last first.
+pub fn giving_modules(
+    members: &[u8],
+    used: u64,
+    givers: u64,
+) -> ArrayVec<u8, { Layout::MODULE_ROOM }>
+    requires { Members members.now }
+    ensures { result.items ≡ giving_of used givers members.now }
+{
+    let mut modules = ArrayVec::new();
+    for &m in members.iter().rev() {
+        if gives(used, givers, ModuleId(m)) {
+            modules.push(m);
         }
-        Self { array, count }
     }
-
-    pub fn modules(&self) -> &[u8]
-        ensures { result.now ≡ giving_on self.now }
-    {
-        &self.array[..self.count]
-    }
+    modules
 }

@@ -94,13 +94,25 @@ neighbours_at ends chains x = nodes_along ends chains.next (get_or chains.heads 
 abbrev pub nodes_left : Neighbours → List ℕ
 nodes_left n = nodes_along n.ends.now n.chain.next.now n.chain.entry
 
--- Needs laid out for a walk: "`Dependencies` are outgoing, `Dependants` incoming", of needs in row order; the record of paths, and the weights that are
--- Maybe.
-pub record Laid {WORDS NEEDS : ℕ} (needs : List Need) (g : Graph WORDS NEEDS) : Type 0 where
+-- The neighbours of items as needs have them: "`Dependencies` are outgoing, `Dependants` incoming", of needs in row order.
+pub record NeighboursLaid {WORDS NEEDS : ℕ} (needs : List Need) (g : Graph WORDS NEEDS) : Type 0 where
   pub dependencies : (x : ℕ) → x < g.nodes → neighbours_at g.pairs.to g.outgoing x ≡ dependencies_of needs x
   pub dependants : (x : ℕ) → x < g.nodes → neighbours_at g.pairs.from g.incoming x ≡ dependants_of needs x
+
+-- Needs laid out for a walk: the neighbours, the record of paths, and the weights that are Maybe.
+pub record Laid {WORDS NEEDS : ℕ} (needs : List Need) (g : Graph WORDS NEEDS) : Type 0 where
+  pub neighbours : NeighboursLaid needs g
   pub paths-shown : Holds g.words g.nodes (in_paths (reverse needs)) g.paths
   pub weak-shown : Holds g.words g.nodes (is_maybe (reverse needs)) g.weak
+
+-- What chaining the neighbours asks for: pairs of items.
+pub record LinkRoom {WORDS NEEDS : ℕ} (g : Graph WORDS NEEDS) : Type 0 where
+  pub from-below : (i : ℕ) → i < g.pairs.count → get_or g.pairs.from i 0 < g.nodes
+  pub to_below : (i : ℕ) → i < g.pairs.count → get_or g.pairs.to i 0 < g.nodes
+
+-- The pairs are the different ones of needs, in the order of their first rows.
+abbrev pub PairsOf : {WORDS NEEDS : ℕ} → List Need → Graph WORDS NEEDS → Type 0
+PairsOf needs g = pairs_of g.pairs.from g.pairs.to g.pairs.count ≡ different_pairs (map ends needs)
 
 -- After the neighbours were chained all else is as it was, but for the heads of numbers that are no items, which are left free.
 pub record Linked {WORDS NEEDS : ℕ} (old new : Graph WORDS NEEDS) : Type 0 where

@@ -14,7 +14,7 @@ use Rattle.lists.specs.Pairs.{Pair, pair, same_pair, holds_pair, seconds_of, add
 use Rattle.lists.specs.PairLaws.{add_pair-old, add_pair-new, different-seconds}
 use Rattle.graph.specs.Neighbours.{nodes_along}
 use Rattle.graph.specs.declared.Graph.{Graph}
-use Rattle.graph.specs.Graph.{ends, Shown, neighbours_at}
+use Rattle.graph.specs.Graph.{Matrices, ends, Shown, neighbours_at, NeighboursLaid, Laid, LinkRoom, PairsOf, Linked as AllLinked}
 
 -- Pairs with their numbers exchanged: the different ones are the exchanged different ones.
 swap : Pair → Pair
@@ -68,13 +68,24 @@ module _ (from to : List ℕ) (count : ℕ) (needs : List Need) (e : pairs_of fr
       ∙ ap different_pairs (map-map swap ends needs))
       ∙ different-seconds (λ (n : Need). n.dependency) (λ (n : Need). n.dependant) x needs
 
+-- The pairs of a graph that shows needs are of its items.
+pub shown-room : {WORDS NEEDS : ℕ} {graph : List Need} (g : Graph WORDS NEEDS) → Shown graph g → LinkRoom g
+shown-room g s = record { from-below = s.from-below; to_below = s.to_below }
+
+-- They are those of the needs, so that once the neighbours are chained, the needs are laid out.
+pub shown-laid : {WORDS NEEDS : ℕ} (needs : List Need) (old : Graph WORDS NEEDS) {new : Graph WORDS NEEDS} → Shown (reverse needs) old
+    → (PairsOf needs old → NeighboursLaid needs new) → new.nodes ≡ old.nodes → AllLinked old new → Laid needs new
+shown-laid needs old s n nodes l =
+    record {
+      neighbours = n (s.pairs ∙ ap (λ (l : List Need). different_pairs (map ends l)) (reverse-reverse needs));
+      paths-shown = rw (l.words-kept, nodes, ap (λ (m : Matrices). m.paths) l.matrices-kept) s.in-paths;
+      weak-shown = rw (l.words-kept, nodes, ap (λ (m : Matrices). m.weak) l.matrices-kept) s.weights;
+    }
+
 -- The neighbours of an item on its chain, once the pairs are chained from cleared heads on.
-module _ {WORDS NEEDS : ℕ} (needs : List Need) (g : Graph WORDS NEEDS) (s : Shown (reverse needs) g) where
+module _ {WORDS NEEDS : ℕ} (needs : List Need) (g : Graph WORDS NEEDS) (same : PairsOf needs g) where
   most : g.pairs.count ≤ NEEDS
   most = g.pairs.within
-
-  same : pairs_of g.pairs.from g.pairs.to g.pairs.count ≡ different_pairs (map ends needs)
-  same = s.pairs ∙ ap (λ (l : List Need). different_pairs (map ends l)) (reverse-reverse needs)
 
   pub dependencies-linked : {next₀ : List ℕ} (old new : Chains item_limit NEEDS)
       → Linked 0 (take g.pairs.count g.pairs.from) (length (take g.pairs.count g.pairs.from)) (replicate g.nodes 0 ++ drop g.nodes old.heads) next₀ new.heads new.next

@@ -14,6 +14,7 @@ use lists::bits;
 use lists::chains::Chains;
 use lists::pairs::Pairs;
 use neighbours::Neighbours;
+use project::kinds::WeightByte;
 use project::{Layout, NodeId};
 
 // `into` has what reaches each item, and is used only where rows have one word; `outgoing` and `incoming` chain the pairs by their first numbers and
@@ -35,12 +36,12 @@ pub struct Graph<const WORDS: usize, const NEEDS: usize> {
 }
 
 // Notes the weight of the pair (x, y): whether it is Maybe.
-fn set_weight(weak: &mut [u64], words: usize, x: usize, y: usize, weight: u8)
+fn set_weight(weak: &mut [u64], words: usize, x: usize, y: usize, weight: WeightByte)
     requires { Place words x y weak.old }
-    ensures { Stored (x * (64 * words) + y) (eqb weight 1) weak.old weak.new }
+    ensures { Stored (x * (64 * words) + y) (eqb weight.0 1) weak.old weak.new }
 {
     let width = 64 * words;
-    if weight == 1 {
+    if weight.is_maybe() {
         bits::row_insert(weak, x * width + y);
     } else {
         bits::row_remove(weak, x * width + y);
@@ -51,7 +52,7 @@ impl<const WORDS: usize, const NEEDS: usize> Graph<WORDS, NEEDS> {
     ghost use Rattle.std.specs.Prelude.{List, [], reverse};
     ghost use Rattle.rules.specs.Project.{Need, item_limit};
     ghost use Rattle.rules.specs.Paths.{dependencies_of, dependants_of, in_paths};
-    ghost use Rattle.graph.specs.Graph.{nodes_left, is_maybe, matrices_of, Cleared, Shown, EdgeRoom, EdgeAdded, Laid, Linked};
+    ghost use Rattle.graph.specs.Graph.{nodes_left, is_maybe, matrices_of, Cleared, EdgeRoom, EdgeAdded, NeighboursLaid, Laid, LinkRoom, PairsOf, Linked};
 
     // No items.
     pub fn new() -> Self
@@ -83,7 +84,7 @@ impl<const WORDS: usize, const NEEDS: usize> Graph<WORDS, NEEDS> {
         ensures outgoing { self.new.outgoing ≡ self.old.outgoing }
         ensures incoming { self.new.incoming ≡ self.old.incoming }
     {
-        let words = (nodes + 63) / 64;
+        let words = rows::words_of(nodes);
         let size = nodes * words;
         self.nodes = nodes;
         self.words = words;
@@ -97,9 +98,9 @@ impl<const WORDS: usize, const NEEDS: usize> Graph<WORDS, NEEDS> {
     }
 
     // Adds the need x to y (add_edge).
-    pub fn add_edge(&mut self, x: NodeId, y: NodeId, weight: u8)
+    pub fn add_edge(&mut self, x: NodeId, y: NodeId, weight: WeightByte)
         requires { EdgeRoom self.old.words self.old.nodes x.0 y.0 (matrices_of self.old) self.old.pairs.from self.old.pairs.to self.old.pairs.count }
-        ensures added { EdgeAdded self.old.words self.old.nodes x.0 y.0 weight (matrices_of self.old) self.old.pairs.from
+        ensures added { EdgeAdded self.old.words self.old.nodes x.0 y.0 weight.0 (matrices_of self.old) self.old.pairs.from
             self.old.pairs.to self.old.pairs.count (matrices_of self.new) self.new.pairs.from
             self.new.pairs.to self.new.pairs.count }
         ensures nodes { self.new.nodes ≡ self.old.nodes }
@@ -107,8 +108,8 @@ impl<const WORDS: usize, const NEEDS: usize> Graph<WORDS, NEEDS> {
         ensures outgoing { self.new.outgoing ≡ self.old.outgoing }
         ensures incoming { self.new.incoming ≡ self.old.incoming }
     {
-        let a = x.0 as usize;
-        let b = y.0 as usize;
+        let a = usize::from(x);
+        let b = usize::from(y);
         let words = self.words;
         let nodes = self.nodes;
         self.pairs.add(64 * words, x.0, y.0);
@@ -126,8 +127,8 @@ impl<const WORDS: usize, const NEEDS: usize> Graph<WORDS, NEEDS> {
 
     // Chains each item's dependencies, outgoing, and its dependants, incoming.
     pub fn link(&mut self)
-        requires { (needs : List Need) × Shown (reverse needs) self.old }
-        ensures laid { (needs : List Need) → Shown (reverse needs) self.old → Laid needs self.new }
+        requires { LinkRoom self.old }
+        ensures neighbours { (needs : List Need) → PairsOf needs self.old → NeighboursLaid needs self.new }
         ensures nodes { self.new.nodes ≡ self.old.nodes }
         ensures linked { Linked self.old self.new }
     {
@@ -146,7 +147,7 @@ impl<const WORDS: usize, const NEEDS: usize> Graph<WORDS, NEEDS> {
         ensures nodes { self.new.nodes ≡ nodes }
         ensures words { self.new.words ≡ words_for nodes }
     {
-        let words = (nodes + 63) / 64;
+        let words = rows::words_of(nodes);
         self.nodes = nodes;
         self.words = words;
         rows::clear_words(&mut self.weak, nodes * words);
@@ -158,22 +159,22 @@ impl<const WORDS: usize, const NEEDS: usize> Graph<WORDS, NEEDS> {
     // The dependencies of x, in the order of their first rows.
     pub fn dependencies(&self, x: NodeId) -> Neighbours<'_>
         requires { x.0 < item_limit }
-        ensures { (needs : List Need) → Laid needs self.now → x.0 < self.now.nodes → nodes_left result ≡ dependencies_of needs x.0 }
+        ensures { (needs : List Need) → NeighboursLaid needs self.now → x.0 < self.now.nodes → nodes_left result ≡ dependencies_of needs x.0 }
     {
         Neighbours {
             ends: &self.pairs.to,
-            chain: self.outgoing.chain(x.0 as usize),
+            chain: self.outgoing.chain(usize::from(x)),
         }
     }
 
-    // The dependants of x, in the order of their first rows.
+    // The dependants of x, in the order of their first rows. A direction as a parameter, as neighbors_directed has, would be a test at each call.
     pub fn dependants(&self, x: NodeId) -> Neighbours<'_>
         requires { x.0 < item_limit }
-        ensures { (needs : List Need) → Laid needs self.now → x.0 < self.now.nodes → nodes_left result ≡ dependants_of needs x.0 }
+        ensures { (needs : List Need) → NeighboursLaid needs self.now → x.0 < self.now.nodes → nodes_left result ≡ dependants_of needs x.0 }
     {
         Neighbours {
             ends: &self.pairs.from,
-            chain: self.incoming.chain(x.0 as usize),
+            chain: self.incoming.chain(usize::from(x)),
         }
     }
 
@@ -182,7 +183,7 @@ impl<const WORDS: usize, const NEEDS: usize> Graph<WORDS, NEEDS> {
         requires { (a.0 < self.now.nodes) × (b.0 < self.now.nodes) }
         ensures { (needs : List Need) → Laid needs self.now → result ≡ in_paths (reverse needs) a.0 b.0 }
     {
-        rows::holds(&self.paths, self.words, a.0 as usize, b.0 as usize)
+        rows::holds(&self.paths, self.words, usize::from(a), usize::from(b))
     }
 
     // Whether the weight of the pair (x, y) is Maybe.
@@ -190,6 +191,6 @@ impl<const WORDS: usize, const NEEDS: usize> Graph<WORDS, NEEDS> {
         requires { (x.0 < self.now.nodes) × (y.0 < self.now.nodes) }
         ensures { (needs : List Need) → Laid needs self.now → result ≡ is_maybe (reverse needs) x.0 y.0 }
     {
-        rows::holds(&self.weak, self.words, x.0 as usize, y.0 as usize)
+        rows::holds(&self.weak, self.words, usize::from(x), usize::from(y))
     }
 }

@@ -6,7 +6,7 @@ ghost use Rattle.graph.specs.Rows.{RowJoined};
 ghost use Rattle.graph.specs.Reach.{AddRoom, WayEntered, Transposed};
 ghost use Rattle.graph.specs.Words.{Taken, SetRoom, SetJoined};
 
-// The numbers that a set has left. That the least comes first, nothing relies on.
+// The numbers that a set has left. Nothing relies on the least coming first.
 #[derive(Clone, Copy)]
 struct Numbers(u64);
 

@@ -10,11 +10,11 @@ use Rattle.rules.specs.Paths.{dependencies_of, dependants_of, DependsOn}
 use Rattle.rules.specs.Items.{is_injected, uninjected_rows, Range, ranges_from, range_of, Group, group_of, kind_of, numbers, same_range, starts, first_list, ItemState, item_state, opened, find_open, waiting, preceding, after_preceding, after_open, visit_item, item_start}
 use Rattle.laws.specs.Lists.{◌∈◌, false≢true, both, Tested, holds, fails, tested, ∈-self, keep-∈}
 use Rattle.laws.specs.Counting.{no_member, below-nil}
-use Rattle.laws.specs.Splits.{size, WellFormed}
+use Rattle.laws.specs.Splits.{size, WellFormed, Giving}
 use Rattle.laws.proofs.Splits.{true-in_range, range_of-holds, length-kinds, well_formed}
 use Rattle.laws.proofs.ItemWalk.{dependencies_of-∈, dependants_of-∈}
 use Rattle.split.specs.declared.Split.{Split}
-use Rattle.split.specs.Splits.{Splittable, Splits}
+use Rattle.split.specs.Splits.{Splits}
 use Rattle.lists.specs.ChainedLaws.{places-none}
 use Rattle.owners.specs.Owners.{need_at}
 use Rattle.layout.specs.Needs.{OwnNeeds}
@@ -95,7 +95,7 @@ one-range p (m ∷ []) x d e h k =
 one-range p (m ∷ n ∷ modules) x d e h k = absurd (omega arith)
 
 -- The needs that a group's walk asks for, from where their chain begins.
-module _ {p : Project} {modules section next : List ℕ} {entry : ℕ} {s : Split} (able : Splittable p modules) (d : Splits p modules s)
+module _ {p : Project} {modules section next : List ℕ} {entry : ℕ} {s : Split} (gives : Giving p modules) (d : Splits p modules s)
     (o : OwnNeeds p modules section next entry) where
   abbrev group : Group
   group = group_of p modules
@@ -105,7 +105,7 @@ module _ {p : Project} {modules section next : List ℕ} {entry : ℕ} {s : Spli
   all_asked = ap (with_needs group) o.among
 
   formed : WellFormed group
-  formed = well_formed p modules able.giving
+  formed = well_formed p modules gives
 
   within : s.modules ≡ 1 → s.uninjected ≡ s.count → (x d : ℕ) → DependsOn group.needs x d → same_range group x d ≡ true
   within e f x c n =

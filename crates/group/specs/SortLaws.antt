@@ -1,7 +1,6 @@
 -- Laws of the sort of one group. Assumes nothing.
-use Rattle.std.specs.Prelude.{ℕ, ◌≤◌, ◌<◌, ◌≡◌, Ok, Err, length, get_or, take}
-use Rattle.std.proofs.Common.{arith, sym, ap, ◌∙◌, length-take-le}
-use Rattle.std.proofs.lemmas.List.{length-map}
+use Rattle.std.specs.Prelude.{ℕ, ◌≤◌, ◌<◌, ◌≡◌, Ok, Err, length, take}
+use Rattle.std.proofs.Common.{arith, sym, ap, ◌∙◌}
 use mathlib.Core.List.{List, reverse}
 use Rattle.rules.specs.Project.{Project}
 use Rattle.rules.specs.Walk.{Stop, finished, run}
@@ -11,7 +10,9 @@ use Rattle.laws.specs.Counting.{Below}
 use Rattle.laws.proofs.Splits.{well_formed}
 use Rattle.laws.proofs.ItemWalk.{run-finished}
 use Rattle.lists.specs.Stacks.{stack}
-use Rattle.split.specs.Splits.{Splittable, Splits}
+use Rattle.split.specs.declared.rows.ItemRows.{ItemRows}
+use Rattle.split.specs.Splits.{Splits}
+use Rattle.layout.specs.Numbers.{Numberable}
 use Rattle.layout.specs.NumberLaws.{row_below}
 use Rattle.walks.specs.declared.Stop.{Stop as Stopped}
 use Rattle.walks.specs.Runs.{Ran, has_finished, was_spent, list_was_full, was_crowded}
@@ -31,14 +32,14 @@ abbrev pub Placed : {WORDS NEEDS ENTRIES : ℕ} → Sort WORDS NEEDS ENTRIES →
 Placed s w t = stack s.arrays.order s.group.split.count ≡ placed_of t
 
 -- The walk of modules' items, and its order as rows.
-module _ {WORDS NEEDS ENTRIES : ℕ} {p : Project} {modules : List ℕ} (s : Sort WORDS NEEDS ENTRIES) (able : Splittable p modules)
+module _ {WORDS NEEDS ENTRIES : ℕ} {p : Project} {modules : List ℕ} {items : ItemRows} (s : Sort WORDS NEEDS ENTRIES) (able : Numberable p modules items)
     (d : Splits p modules s.group.split) (left already : ℕ) where
   -- where it has finished
   module _ (t : ItemState) (made : ℕ) (e : run_of p modules left already ≡ finished t made) (shown : stack s.arrays.order s.group.split.count ≡ placed_of t) where
     below : Below s.group.split.count (placed_of t)
     below x m =
         let b = (run-finished (group_of p modules) (well_formed p modules able.giving) item_list_limit left already e).walked.placed_below x m in
-        omega (arith, b, items-are able d)
+        omega (arith, b, items-are d)
 
     room : s.group.split.count ≤ length s.arrays.order
     room = omega (arith, s.group.split.counts, s.arrays.order_size)
@@ -68,9 +69,3 @@ module _ {WORDS NEEDS ENTRIES : ℕ} {p : Project} {modules : List ℕ} (s : Sor
   sort-stopped (was_spent e) = was_spent (ap (order_of _) e)
   sort-stopped (list_was_full e) = list_was_full (ap (order_of _) e)
   sort-stopped (was_crowded h) = was_crowded h
-
--- The rows that are given are as many as there are items.
-pub given-count : {WORDS NEEDS ENTRIES : ℕ} {rows : List ℕ} (s : Sort WORDS NEEDS ENTRIES) → Given rows s → length rows ≡ s.group.split.count
-given-count s h =
-    ap length h.rows-are ∙ length-map (take s.group.split.count s.arrays.order) (λ x. get_or s.group.split.rows x 0)
-    ∙ length-take-le s.group.split.count s.arrays.order (omega (arith, s.group.split.counts, s.arrays.order_size))

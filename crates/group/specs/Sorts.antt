@@ -5,9 +5,8 @@ use Rattle.rules.specs.Walk.{Stop}
 use Rattle.rules.specs.Items.{numbering}
 use Rattle.rules.specs.Calls.{item_list_limit}
 use Rattle.split.specs.declared.rows.ItemRows.{ItemRows}
-use Rattle.split.specs.Rows.{RowsShown}
-use Rattle.split.specs.Splits.{Splittable}
 use Rattle.graph.specs.Rows.{words_for}
+use Rattle.layout.specs.Numbers.{Numberable}
 use Rattle.layout.specs.Needs.{OwnNeeds}
 use Rattle.walks.specs.declared.Stop.{Stop as Stopped}
 use Rattle.walks.specs.Runs.{Ran}
@@ -17,8 +16,7 @@ use Rattle.group.specs.declared.Sort.{Sort}
 -- Modules that give items can be sorted: their rows and their needs are chained, and there is room for as many rows of bits as the project has items,
 -- and for its needs.
 pub record Sortable (WORDS NEEDS : ℕ) (p : Project) (modules : List ℕ) (items : ItemRows) (needs next : List ℕ) (entry : ℕ) : Type 0 where
-  pub splittable : Splittable p modules
-  pub rows_shown : RowsShown p items
+  pub numberable : Numberable p modules items
   pub needs-own : OwnNeeds p modules needs next entry
   pub rows-room : length p.items * words_for (length p.items) ≤ WORDS
   pub needs-room : length p.needs ≤ NEEDS

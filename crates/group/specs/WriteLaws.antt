@@ -1,6 +1,6 @@
 -- Laws of rows given in the order of a walk. Assumes nothing.
 use Prim.Native.Nat.{ℕ, suc, ◌+◌, ◌≤◌, ◌<◌}
-use Rattle.std.proofs.Common.{arith, add-one, ◌∙◌, drop_of_length-le, length-take-le, drop-cons, get_or-take}
+use Rattle.std.proofs.Common.{arith, add-one, ◌∙◌, length-take-le, drop-cons, get_or-take}
 use Rattle.std.specs.Prelude.{◌≡◌, take, drop, set}
 use Rattle.std.proofs.Math.Path.{refl, sym, ap, subst}
 use mathlib.Core.List.Memᴰ
@@ -23,11 +23,6 @@ module _ (rows order out : List ℕ) (n «at» j : ℕ) where
       let size : length (take n order) ≡ n = length-take-le n order g in
       let next : «at» + (j + 1) ≡ suc («at» + j) = omega arith in
       rw (next, add-one, drop-cons (take n order) j 0 (omega arith))
-
-  pub written_all : n ≤ j → n ≤ length order → sets out («at» + j) (rows_of rows (drop j (take n order))) ≡ out
-  written_all h g =
-      let size : length (take n order) ≤ j = omega (arith, length-take-le n order g) in
-      rw (drop_of_length-le (take n order) size)
 
 -- Two functions that agree on the members of a list make one list of it.
 map-members : (f g : ℕ → ℕ) (l : List ℕ) → ((x : ℕ) → x ∈ l → f x ≡ g x) → map f l ≡ map g l

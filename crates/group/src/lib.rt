@@ -15,7 +15,7 @@ use lists::chains::Chain;
 use split::rows::ItemRows;
 use stmt::arrays::Arrays;
 use stmt::walk::{Crowded, ItemWalk, run};
-use walks::Stop;
+use walks::{Allowance, Stop};
 
 // A group laid out, and the arrays of its walk.
 #[derive(Drop)]
@@ -32,6 +32,7 @@ impl<const WORDS: usize, const NEEDS: usize, const ENTRIES: usize> Sort<WORDS, N
     // No items.
     pub fn new() -> Self
         requires bounds { (WORDS ≤ 65536) × (NEEDS < 65536) }
+        ensures none { (result.group.graph.nodes ≡ 0) × (result.group.split.count ≡ 0) }
     {
         Self {
             group: Group::new(),
@@ -46,10 +47,7 @@ impl<const WORDS: usize, const NEEDS: usize, const ENTRIES: usize> Sort<WORDS, N
     {
         let split = &self.group.split;
         if split.modules == 1 && split.uninjected == split.count {
-            return Chain {
-                next: own.next,
-                entry: 0,
-            };
+            return own.emptied();
         }
         own
     }
@@ -57,11 +55,10 @@ impl<const WORDS: usize, const NEEDS: usize, const ENTRIES: usize> Sort<WORDS, N
     // Walks the items of the group from its first list on, as the definition's run does, unless the list may not fit its array. The group that is laid out
     // may have fewer needs than the one that is walked, where every visit is the same. Where it has finished, `order` holds the numbers in their order;
     // else it is left free, and so is the rest of the state.
-    fn walk_items(&mut self, allowance: u32, already: u32) -> Result<(ItemWalk, u32), Stop<Crowded>>
-        requires already_le_allowance { already ≤ allowance }
-        requires walkable { (g : Input) × (walked : Input) × Walkable g walked self.old.group }
+    fn walk_items(&mut self, allowance: Allowance) -> Result<(ItemWalk, u32), Stop<Crowded>>
+        requires { (g : Input) × (walked : Input) × Walkable g walked self.old.group }
         ensures ran { (g walked : Input) → Walkable g walked self.old.group
-            → Ran (runs (item_walk walked) item_list_limit (allowance - already) already (item_start walked))
+            → Ran (runs (item_walk walked) item_list_limit (allowance.visits - allowance.made) allowance.made (item_start walked))
             (λ w t. stack self.new.arrays.order self.old.group.split.count ≡ placed_of t) (λ c. ENTRIES < item_list_limit) result }
         ensures group { self.new.group ≡ self.old.group }
     {
@@ -69,10 +66,10 @@ impl<const WORDS: usize, const NEEDS: usize, const ENTRIES: usize> Sort<WORDS, N
             return Err(Stop::Crowded(Crowded));
         }
         let start = ItemWalk::new(&self.group, &mut self.arrays);
-        run(&self.group, &mut self.arrays, start, allowance, already)
+        run(&self.group, &mut self.arrays, start, allowance)
     }
 
-    // Sorts the kept items of a group's modules, whose needs stand along the chain `own`, `already` being the visits made before: the walk's outcome, and
+    // Sorts the kept items of a group's modules, whose needs stand along the chain `own`: the walk's outcome, and
     // where it has finished, how many items there are. What the arrays hold beyond the rows in their order is left free.
     pub fn sort_stmts(
         &mut self,
@@ -80,18 +77,16 @@ impl<const WORDS: usize, const NEEDS: usize, const ENTRIES: usize> Sort<WORDS, N
         needs: &[u8],
         own: Chain<'_>,
         modules: &[u8],
-        allowance: u32,
-        already: u32,
+        allowance: Allowance,
     ) -> Result<(usize, u32), Stop<Crowded>>
-        requires already_le_allowance { already ≤ allowance }
-        requires sortable { (p : Project) × Sortable WORDS NEEDS p modules.now items.now needs.now own.next.now own.entry }
+        requires { (p : Project) × Sortable WORDS NEEDS p modules.now items.now needs.now own.next.now own.entry }
         ensures { (p : Project) → Sortable WORDS NEEDS p modules.now items.now needs.now own.entry.next.now own.entry.entry
-            → Sorted p modules.now (sort_modules p modules.now item_list_limit (allowance - already) already) self.new result }
+            → Sorted p modules.now (sort_modules p modules.now item_list_limit (allowance.visits - allowance.made) allowance.made) self.new result }
     {
         self.group.number_items(items, modules);
         let asked = self.asked(own);
         self.group.lay_needs(needs, asked);
-        let (_, made) = self.walk_items(allowance, already)?;
+        let (_, made) = self.walk_items(allowance)?;
         Ok((self.group.split.count, made))
     }
 
@@ -102,11 +97,9 @@ impl<const WORDS: usize, const NEEDS: usize, const ENTRIES: usize> Sort<WORDS, N
         ensures end { (rows : List ℕ) → Given rows self.now → result ≡ «at» + length rows }
     {
         let split = &self.group.split;
-        let mut end = at;
-        for &x in &self.arrays.order[..split.count] {
-            out[end] = split.rows[x as usize] as u8;
-            end += 1;
+        for (i, &x) in self.arrays.order[..split.count].iter().enumerate() {
+            out[at + i] = split.rows[x as usize] as u8;
         }
-        end
+        at + split.count
     }
 }

@@ -14,6 +14,7 @@ pub fn read_full<R: Read>(input: &mut R, buf: &mut [u8]) -> io::Result<usize>
     ensures end { IfOk result (λ n. n < length buf.new → IsAtEnd (R.remaining input.new)) }
 {
     let mut at = 0;
+    // No `for`: how many reads it takes is not known before.
     while at < buf.len() {
         let n = input.read(&mut buf[at..])?;
         if n == 0 {

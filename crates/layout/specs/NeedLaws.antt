@@ -67,7 +67,7 @@ module _ (rows : List ℕ) (need : NeedRow) (graph : List Need) where
         (omega (arith, room.room, g.pairs.sizes)) (omega (arith, room.room, g.pairs.sizes))
 
     pub need-shown : {h : Graph WORDS NEEDS} → h.nodes ≡ g.nodes → h.words ≡ g.words
-        → EdgeAdded g.words g.nodes x.0 y.0 need.weight (matrices_of g) g.pairs.from g.pairs.to g.pairs.count (matrices_of h) h.pairs.from h.pairs.to h.pairs.count
+        → EdgeAdded g.words g.nodes x.0 y.0 need.weight.0 (matrices_of g) g.pairs.from g.pairs.to g.pairs.count (matrices_of h) h.pairs.from h.pairs.to h.pairs.count
         → Shows (add_need rows graph (need_in need)) s h
     unfolding is_among numbered
     need-shown nodes words added =

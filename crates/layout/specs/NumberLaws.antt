@@ -10,8 +10,9 @@ use Rattle.laws.specs.Counting.{Below}
 use Rattle.laws.proofs.Splits.{kept_rows-∈, given_rows-∈, numbering-∈, once-numbering, get_or-number_of, number_of-get_or}
 use Rattle.project.specs.declared.NodeId.{NodeId}
 use Rattle.split.specs.declared.Split.{Split}
-use Rattle.split.specs.Splits.{Splittable, Splits}
-use Rattle.layout.specs.Numbers.{note_from, NumberedAs, is-in, is-out, Noted}
+use Rattle.split.specs.declared.rows.ItemRows.{ItemRows}
+use Rattle.split.specs.Splits.{Splits}
+use Rattle.layout.specs.Numbers.{note_from, NumberedAs, is-in, is-out, Noted, Numberable}
 
 -- Noting one row after the other.
 pub noted_more : (rows : List ℕ) (n x : ℕ) (numbers : List ℕ) → x < n → n ≤ length rows
@@ -49,7 +50,7 @@ rows-below : (p : Project) (modules : List ℕ) → Below (length p.items) (numb
 rows-below p modules row m = (kept_rows-∈ p (given_rows-∈ p modules (numbering-∈ p modules m)).0).item
 
 -- So once they are noted they are found by row.
-module _ {p : Project} {modules : List ℕ} {s : Split} (h : Splittable p modules) (d : Splits p modules s) where
+module _ {p : Project} {modules : List ℕ} {items : ItemRows} {s : Split} (h : Numberable p modules items) (d : Splits p modules s) where
   size : length (take s.count s.rows) ≡ s.count
   size = length-take-le s.count s.rows (omega (arith, s.sizes, s.counts))
 

@@ -4,8 +4,12 @@ use Rattle.rules.specs.Lists.{elem}
 use Rattle.rules.specs.Project.{Project}
 use Rattle.rules.specs.Items.{number_of}
 use Rattle.laws.specs.Lists.{Once}
+use Rattle.laws.specs.Accepted.{Accepted}
+use Rattle.laws.specs.Splits.{Giving}
 use Rattle.project.specs.declared.NodeId.{NodeId}
 use Rattle.split.specs.declared.Split.{Split}
+use Rattle.split.specs.declared.rows.ItemRows.{ItemRows}
+use Rattle.split.specs.Rows.{RowsAmong}
 use Rattle.split.specs.Splits.{Splits}
 use Rattle.layout.specs.declared.Group.{Group}
 
@@ -24,7 +28,13 @@ pub record Noted (s : Split) (numbers : List ℕ) : Type 0 where
   pub once : Once (take s.count s.rows)
   pub noted : (x : ℕ) → x < s.count → get_or numbers (get_or s.rows x 0) 0 ≡ x
 
--- What numbering the items of modules gives: the split, and the numbers of its rows.
+-- What numbering the items of modules asks for: modules of an accepted project that give items, and the rows of each along its chain.
+pub record Numberable (p : Project) (modules : List ℕ) (items : ItemRows) : Type 0 where
+  pub accepted : Accepted p
+  pub giving : Giving p modules
+  pub rows_shown : RowsAmong p modules items
+
+-- What numbering them gives: the split, and the numbers of its rows.
 pub record ItemsNumbered {WORDS NEEDS : ℕ} (p : Project) (modules : List ℕ) (g : Group WORDS NEEDS) : Type 0 where
   pub splits : Splits p modules g.split
   pub noted : Noted g.split g.numbers

@@ -24,17 +24,16 @@ impl<const WORDS: usize, const NEEDS: usize> Group<WORDS, NEEDS> {
     ghost use Rattle.std.specs.Prelude.{List, [], reverse, take};
     ghost use Rattle.rules.specs.Project.{Project, Need};
     ghost use Rattle.project.specs.Decoded.{need_in};
-    ghost use Rattle.split.specs.Rows.{RowsShown};
-    ghost use Rattle.split.specs.Splits.{Splittable};
     ghost use Rattle.owners.specs.Owners.{NeedsAlong};
     ghost use Rattle.graph.specs.Rows.{words_for};
     ghost use Rattle.graph.specs.Graph.{Laid};
-    ghost use Rattle.layout.specs.Numbers.{note_from, NumberedAs, Noted, ItemsNumbered};
+    ghost use Rattle.layout.specs.Numbers.{note_from, NumberedAs, Noted, Numberable, ItemsNumbered};
     ghost use Rattle.layout.specs.Needs.{add_need, add_needs, needs_among, Shows, NeedRoom, LayRoom};
 
     // No items.
     pub fn new() -> Self
         requires bounds { (WORDS ≤ 65536) × (NEEDS < 65536) }
+        ensures none { (result.graph.nodes ≡ 0) × (result.split.count ≡ 0) }
     {
         Self {
             split: Split::new(),
@@ -44,22 +43,22 @@ impl<const WORDS: usize, const NEEDS: usize> Group<WORDS, NEEDS> {
     }
 
     // Notes the number of each of the group's rows. Rows of other groups keep what was noted of them.
-    fn note_numbers(&mut self)
+    pub fn note_numbers(&mut self)
         requires { (x : ℕ) → x < self.old.split.count → get_or self.old.split.rows x 0 < item_limit }
         ensures numbers { self.new.numbers ≡ note_from 0 (take self.old.split.count self.old.split.rows) self.old.numbers }
         ensures split { self.new.split ≡ self.old.split }
         ensures graph { self.new.graph ≡ self.old.graph }
     {
-        for x in 0..self.split.count {
-            let row = self.split.rows[x] as usize;
-            self.numbers[row] = x as u16;
+        let split = &self.split;
+        for (x, &row) in split.rows[..split.count].iter().enumerate() {
+            self.numbers[usize::from(row)] = x as u16;
         }
     }
 
     // Splits the kept items of modules, and notes the numbers of their rows.
     pub fn number_items(&mut self, items: &ItemRows, modules: &[u8])
-        requires { (p : Project) × RowsShown p items.now × Splittable p modules.now }
-        ensures numbered { (p : Project) → RowsShown p items.now → Splittable p modules.now → ItemsNumbered p modules.now self.new }
+        requires { (p : Project) × Numberable p modules.now items.now }
+        ensures numbered { (p : Project) → Numberable p modules.now items.now → ItemsNumbered p modules.now self.new }
         ensures graph { self.new.graph ≡ self.old.graph }
     {
         self.split.split_items(items, modules);
@@ -67,12 +66,12 @@ impl<const WORDS: usize, const NEEDS: usize> Group<WORDS, NEEDS> {
     }
 
     // The number of a row, if it is one of the group's.
-    fn number_of(&self, item: ItemId) -> Option<NodeId>
+    pub fn number_of(&self, item: ItemId) -> Option<NodeId>
         requires { Noted self.now.split self.now.numbers × (item.0 < item_limit) }
         ensures { NumberedAs (take self.now.split.count self.now.split.rows) item.0 result }
     {
         let x = self.numbers[usize::from(item)];
-        let at = x as usize;
+        let at = usize::from(x);
         if at < self.split.count && self.split.rows[at] == item.0 {
             return Some(NodeId(x));
         }
@@ -125,7 +124,7 @@ impl<const WORDS: usize, const NEEDS: usize> Group<WORDS, NEEDS> {
         ensures numbers { self.new.numbers ≡ self.old.numbers }
     {
         let count = self.split.count;
-        if own.entry == 0 {
+        if own.is_empty() {
             self.graph.lay_out_none(count);
             return;
         }

@@ -24,16 +24,15 @@ const REPLY: usize = 4200;
 const REPORT: usize = 40;
 
 // The bytes of the words; how many. Which bytes they are is left free: what a test program reads is seen in what it prints.
-fn bytes_of(mut words: Pieces<'_>, out: &mut [u8]) -> usize
+pub fn bytes_of(words: Pieces<'_>, out: &mut [u8]) -> usize
     ensures { result ≤ length out.new }
 {
-    for (n, place) in out.iter_mut().enumerate() {
-        let Some(word) = words.next() else {
-            return n;
-        };
+    let mut n = 0;
+    for (place, word) in out.iter_mut().zip(words) {
         *place = (value_of(word) % 256) as u8;
+        n += 1;
     }
-    out.len()
+    n
 }
 
 // The length of a reply or a report, as a line asks for it. Proved is that the array has room for it and the bytes around it.

@@ -38,8 +38,8 @@ impl<'a> Iterator for Pieces<'a> {
     }
 }
 
-// The value of a digit in base 16; 0 for any other byte, also for capital letters, which `to_digit` would read.
-fn digit(byte: u8) -> u8
+// The value of a digit in base 16. Any other byte counts as 0, also a capital letter, which `to_digit` would read.
+pub fn digit(byte: u8) -> u8
     ensures { result < 16 }
 {
     match byte {

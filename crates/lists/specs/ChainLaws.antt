@@ -8,7 +8,8 @@ use Rattle.std.proofs.Math.Path.{sym, ap}
 use mathlib.Core.List.{List, [], ◌∷◌, map}
 use Rattle.std.proofs.Math.Dec.{eqb}
 use Rattle.std.proofs.Math.ListN.{get_or, length-set, length-take}
-use Rattle.std.proofs.lemmas.List.{length-map}
+use Rattle.std.specs.List.{push}
+use Rattle.std.proofs.lemmas.List.{length-map, length_push, get_or_push, take_at, take-take}
 use Rattle.std.proofs.Math.Seq.{drop-set-lt, get_or-take}
 use borrow.Author.Tests.{eq-eqb, ne_eqb}
 use Rattle.rules.specs.Lists.{cons_if, positions_from}
@@ -186,3 +187,15 @@ link-past from heads₀ next₀ heads next n i more within from-size next-size t
     let e : i ≡ suc (i - 1) = omega arith in
     link-pass from heads₀ next₀ heads next n (i - 1) (get_or from (i - 1) 0) (omega arith) from-size next-size refl
     (subst (λ (k : ℕ). Linked k from n heads₀ next₀ heads next) e l) taken
+
+-- the first keys of a list, and those without the last of them
+pub first-but-last : (keys some more : List ℕ) (key : ℕ) → some ≡ push more key → some ≡ take (length some) keys
+    → (length some ≡ length more + 1) × (more ≡ take (length more) keys) × (get_or keys (length more) 0 ≡ key)
+first-but-last keys some more key e h =
+    let count : length some ≡ length more + 1 = ap length e ∙ length_push more key in
+    let front : take (length more + 1) keys ≡ push more key = rw (← count) (sym h ∙ e) in
+    let below : length more < length more + 1 = omega arith in (
+      count,
+      sym (take_at more (key ∷ []) (length more) refl) ∙ sym (ap (take (length more)) front) ∙ take-take (length more) (length more + 1) keys (omega arith),
+      sym (get_or-take (length more + 1) keys (length more) 0 below) ∙ ap (λ (l : List ℕ). get_or l (length more) 0) front ∙ get_or_push more key 0 (length more) refl,
+    )

@@ -1,5 +1,6 @@
-// Chains of places by key: an entry is one more than a place, and 0 stands for none.
-ghost use Rattle.std.specs.Prelude.{ℕ, ◌+◌, ◌≤◌, ◌<◌, ◌≡◌, ◌^◌, ◌++◌, length, get_or, set, drop, replicate};
+// Chains of places by key: an entry is one more than a place, and 0 stands for none. As an Option it would take twice the bytes, which are cleared for
+// each call.
+ghost use Rattle.std.specs.Prelude.{ℕ, ◌+◌, ◌≤◌, ◌<◌, ◌≡◌, ◌^◌, ◌++◌, eqb, length, get_or, set, drop, replicate};
 ghost use Rattle.std.specs.Iterator.{YieldsFirst, item_count};
 ghost use Rattle.lists.specs.Chained.{Ascends, Leads, places};
 ghost use Rattle.lists.specs.Pairs.{Linkable, Linked};
@@ -10,6 +11,26 @@ pub struct Chain<'a> {
     pub next: &'a [u16],
     pub entry: u16,
     pub ghost leads: { Leads next.now entry },
+}
+
+impl<'a> Chain<'a> {
+    // Whether it has no places.
+    pub fn is_empty(self) -> bool
+        ensures { result ≡ eqb self.entry.entry 0 }
+    {
+        self.entry == 0
+    }
+
+    // The chain without its places.
+    pub fn emptied(self) -> Self
+        ensures next { result.next.now ≡ self.entry.next.now }
+        ensures entry { result.entry ≡ 0 }
+    {
+        Chain {
+            next: self.next,
+            entry: 0,
+        }
+    }
 }
 
 impl<'a> Iterator for Chain<'a> {
@@ -23,7 +44,7 @@ impl<'a> Iterator for Chain<'a> {
         if self.entry == 0 {
             return None;
         }
-        let place = self.entry as usize - 1;
+        let place = usize::from(self.entry) - 1;
         self.entry = self.next[place];
         Some(place)
     }
@@ -75,8 +96,8 @@ impl<const KEYS: usize, const PLACES: usize> Chains<KEYS, PLACES> {
         requires { Linkable keys.now (length keys.now) self.old.heads self.old.next }
         ensures { Linked 0 keys.now (length keys.now) self.old.heads self.old.next self.new.heads self.new.next }
     {
-        for place in (0..keys.len()).rev() {
-            self.put_first(keys[place] as usize, place);
+        for (place, &key) in keys.iter().enumerate().rev() {
+            self.put_first(usize::from(key), place);
         }
     }
 

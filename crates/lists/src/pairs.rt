@@ -4,7 +4,8 @@ ghost use Rattle.lists.specs.Pairs.{Room, Added};
 
 use super::bits;
 
-// A row of bits for each first number says which pairs stand there, and both numbers of each pair.
+// A row of bits for each first number says which pairs stand there, and both numbers of each pair. These are two arrays and no `ArrayVec` of pairs, since
+// `Chains::link` takes one of them as its keys.
 #[derive(Drop)]
 pub struct Pairs<const WORDS: usize, const PLACES: usize> {
     pub seen: [u64; WORDS],
@@ -48,7 +49,7 @@ impl<const WORDS: usize, const PLACES: usize> Pairs<WORDS, PLACES> {
         ensures { Added width a b self.old.seen self.old.from self.old.to self.old.count self.new.seen
             self.new.from self.new.to self.new.count }
     {
-        let k = a as usize * width + b as usize;
+        let k = usize::from(a) * width + usize::from(b);
         if bits::row_has(&self.seen, k) {
             return;
         }

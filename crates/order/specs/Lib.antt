@@ -5,4 +5,3 @@ pub mod SortTurnLaws
 pub mod LoopLaws
 pub mod Orders
 pub mod ReadyLaws
-pub mod OrderLaws

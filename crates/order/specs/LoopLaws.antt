@@ -1,18 +1,18 @@
 -- Laws of the loops over the groups' turns. Assumes nothing.
-use Rattle.std.specs.Prelude.{ℕ, ◌+◌, ◌-◌, ◌≤◌, ◌<◌, ◌≡◌, refl, Bool, true, false, ◌||◌, Ok, Err, eqb, get_or}
+use Rattle.std.specs.Prelude.{ℕ, ◌+◌, ◌-◌, ◌≤◌, ◌<◌, ◌≡◌, refl, Bool, true, false, ◌||◌, Some, Ok, Err, get_or}
 use Rattle.std.proofs.Common.{arith, ◌∙◌, length-append}
 use Rattle.std.proofs.Math.Path.{sym, ap}
 use Rattle.std.proofs.Math.Bool.{not}
 use mathlib.Core.List.Memᴰ
 use mathlib.Core.List.{List, [], ◌∷◌, ◌++◌, map, reverse, reverse-cons, append_assoc}
 use Rattle.std.proofs.Math.ListN.{length, drop}
-use Rattle.rules.specs.Lists.{any, keep, elem}
-use Rattle.rules.specs.Project.{Project, Need, module_limit, item_limit}
+use Rattle.rules.specs.Lists.{any, elem}
+use Rattle.rules.specs.Project.{Project, module_limit, item_limit}
 use Rattle.rules.specs.Walk.{Stop, finished}
 use Rattle.rules.specs.Modules.{is_done}
 use Rattle.rules.specs.Items.{keeps_row_order, giving_modules, given_rows, numbering, numbered, sort_modules, sort_group}
 use Rattle.rules.specs.Calls.{item_list_limit, group_bytes, continue_with, order_groups}
-use Rattle.laws.specs.Lists.{◌∈◌, ∈-right, ∈-self, keep-∈, reverse-∈, true-elem, not-true, both, length-parts, none}
+use Rattle.laws.specs.Lists.{◌∈◌, ∈-right, ∈-self, keep-∈, reverse-∈, true-elem, not-true, both, none}
 use Rattle.laws.specs.Counting.{Below}
 use Rattle.laws.specs.Terms.{module_of}
 use Rattle.laws.proofs.Splits.{given_rows-∈, once-given_rows, numbering-∈, once-numbering, giving}
@@ -21,14 +21,15 @@ use Rattle.lists.specs.Bits.{bit}
 use Rattle.lists.specs.BitLaws.{bit-zero}
 use Rattle.owners.specs.declared.NeedRows.{NeedRows}
 use Rattle.owners.specs.GroupBytes.{first-within, first_past}
-use Rattle.owners.specs.Owners.{owner_of, key_of}
+use Rattle.owners.specs.Owners.{owner_of, needs_of}
 use Rattle.owners.specs.NeedRows.{NeedsChained}
-use Rattle.owners.specs.OwnerLaws.{owner-first, among-kept}
+use Rattle.owners.specs.OwnerLaws.{owner-first, needs-few, among-kept}
 use Rattle.layout.specs.Needs.{OwnNeeds}
 use Rattle.walks.specs.declared.Stop.{Stop as Stopped}
 use Rattle.walks.specs.Runs.{has_finished, was_spent, list_was_full, was_crowded}
 use Rattle.stmt.specs.declared.walk.Crowded.{Crowded as ListCrowded}
 use Rattle.giving.specs.Giving.{Members, Stored}
+use Rattle.split.specs.RowLaws.{rows-among}
 use Rattle.split.specs.StoreLaws.{stored-behind}
 use Rattle.order.specs.declared.turns.Turn.{Turn}
 use Rattle.order.specs.declared.turns.Turns.{Turns}
@@ -152,26 +153,27 @@ module _ {p : Project} {groups : List (List ℕ)} {turns : Turns} (ready : Ready
       )
 
   -- a row of the group's modules is owned by it
-  own_row : (row : ℕ) → row ∈ numbering p modules → owner_of p groups row ≡ t.left
+  own_row : (row : ℕ) → row ∈ numbering p modules → owner_of p groups row ≡ Some (t.left - 1)
   unfolding giving_modules owner_of
   own_row row h =
       let r = given_rows-∈ p modules (numbering-∈ p modules h) in
       let k = keep-∈ _ (reverse members) r.1 in
+      let last : length later ≡ t.left - 1 = omega (arith, s.left_is) in
       owner-first s.earlier members later (module_of p row) s.parts
       (true-elem (reverse-∈ members k.0)) (not-true (both {a = not (is_done s.earlier (module_of p row))} k.1).0)
-      ∙ sym s.left_is
+      ∙ ap (λ (k : ℕ). Some k) last
 
   left-most : t.left ≤ module_limit
   left-most = omega (arith, s.left_is, ap length s.parts, length-append (reverse s.earlier) (members ∷ later), ready.groups-most)
 
   own-needs : {NEEDS : ℕ} {needs : NeedRows NEEDS} → NeedsChained p groups needs
-      → OwnNeeds p modules needs.section.now needs.chains.next (get_or needs.chains.heads t.left 0)
+      → OwnNeeds p modules needs.section.now needs.chains.next (get_or needs.chains.heads (t.left - 1) 0)
   own-needs c =
       record {
-        own = keep (λ (n : Need). eqb (key_of p groups n) t.left) p.needs;
-        along = c.chains t.left turn-some left-most;
-        few = omega (arith, length-parts (λ (n : Need). eqb (key_of p groups n) t.left) p.needs);
-        among = ap (map (numbered (numbering p modules))) (among-kept p groups (numbering p modules) t.left own_row p.needs);
+        own = needs_of p groups (t.left - 1);
+        along = c.chains (t.left - 1) (omega (arith, turn-some, left-most));
+        few = omega (arith, needs-few p groups (t.left - 1));
+        among = ap (map (numbered (numbering p modules))) (among-kept p groups (numbering p modules) (t.left - 1) own_row p.needs);
       }
 
   pub sort-turn : {WORDS NEEDS : ℕ} {needs : NeedRows NEEDS} → NeedsChained p groups needs → Sized WORDS NEEDS p → length now ≡ item_limit
@@ -183,8 +185,12 @@ module _ {p : Project} {groups : List (List ℕ)} {turns : Turns} (ready : Ready
         made-most = s.made-most;
         sortable =
             record {
-              splittable = record { accepted = ready.accepted; giving = giving p s.earlier turn-formed.once };
-              rows_shown = ready.rows_shown;
+              numberable =
+                  record {
+                    accepted = ready.accepted;
+                    giving = giving p s.earlier turn-formed.once;
+                    rows_shown = rows-among ready.rows_shown modules-below;
+                  };
               needs-own = own-needs c;
               rows-room = z.rows;
               needs-room = z.places;

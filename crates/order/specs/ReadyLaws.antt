@@ -13,12 +13,12 @@ use Rattle.split.specs.RowLaws.{kept_rows_of-positions}
 use Rattle.split.specs.Rows.{RowsShown}
 use Rattle.graph.specs.Rows.{words_for}
 use Rattle.owners.specs.KeyLaws.{items-fit, needs-fit}
-use Rattle.owners.specs.declared.Owners.{Owners}
 use Rattle.owners.specs.declared.NeedRows.{NeedRows}
 use Rattle.owners.specs.Owners.{Notable, OwnersShown}
 use Rattle.owners.specs.NeedRows.{NeedsChained}
 use Rattle.giving.specs.KeptLaws.{swap_and}
 use Rattle.giving.specs.Giving.{is_importer, is_giver}
+use Rattle.order.specs.declared.tables.SortTurns.{SortTurns}
 use Rattle.order.specs.declared.turns.Turn.{Turn}
 use Rattle.order.specs.declared.turns.Turns.{Turns}
 use Rattle.order.specs.Turns.{Ready, Turning}
@@ -92,17 +92,17 @@ module _ {p : Project} {groups : List (List ℕ)} {items imports needs bytes : L
       }
 
   -- the turns go on from one
-  pub going : {turns : Turns} {owners : Owners} {now : List ℕ} {allowance : ℕ} {t : Turn} → Ready p groups turns
-      → OwnersShown groups owners.array → length now ≡ length out → Turning p groups allowance out now t
-      → Going p groups turns needs owners allowance out now t
-  going r shown size turning =
+  pub going : {sort : SortTurns} {now : List ℕ} {allowance : ℕ} {t : Turn} → Ready p groups sort.turns.now → sort.needs.now ≡ needs
+      → OwnersShown groups sort.owners.now.array → length now ≡ length out → Turning p groups allowance out now t
+      → Going p groups sort allowance out now t
+  going r same shown size turning =
       record {
         ready = r;
         owned =
             record {
               accepted = o.accepted;
               items-are = r.rows_shown.section;
-              needs-are = o.needs-are;
+              needs-are = rw same o.needs-are;
               owners-shown = shown;
               groups-most = r.groups-most;
             };
@@ -111,14 +111,14 @@ module _ {p : Project} {groups : List (List ℕ)} {items imports needs bytes : L
       }
 
 -- The turns from one on: what arrays are large enough, and the same with the needs chained.
-module _ {p : Project} {groups : List (List ℕ)} {turns : Turns} {needs : List ℕ} {owners : Owners} {allowance : ℕ} {before now : List ℕ} {t : Turn}
-    (h : Going p groups turns needs owners allowance before now t) where
-  pub sized : (most many WORDS : ℕ) → length turns.items.section.now ≤ 2 * most → length needs ≤ 3 * many → most * words_for most ≤ WORDS
+module _ {p : Project} {groups : List (List ℕ)} {sort : SortTurns} {allowance : ℕ} {before now : List ℕ} {t : Turn}
+    (h : Going p groups sort allowance before now t) where
+  pub sized : (most many WORDS : ℕ) → length sort.turns.now.items.section.now ≤ 2 * most → length sort.needs.now ≤ 3 * many → most * words_for most ≤ WORDS
       → Sized WORDS many p
   sized most many WORDS few less room =
-      let items : length p.items ≤ most = rw h.owned.items-are (items-fit turns.items.section.now most few) in
+      let items : length p.items ≤ most = rw h.owned.items-are (items-fit sort.turns.now.items.section.now most few) in
       let fewer : words_for (length p.items) ≤ words_for most = omega (arith, items) in
-      record { rows = omega (arith, mul-le-mul items fewer, room); places = rw h.owned.needs-are (needs-fit needs many less) }
+      record { rows = omega (arith, mul-le-mul items fewer, room); places = rw h.owned.needs-are (needs-fit sort.needs.now many less) }
 
   pub sized-any : Sized 1024 need_limit p
   sized-any =
@@ -126,10 +126,10 @@ module _ {p : Project} {groups : List (List ℕ)} {turns : Turns} {needs : List 
       record { rows = omega (arith, mul-le-mul h.owned.accepted.items-most fewer); places = h.owned.accepted.needs-most }
 
   pub sorting : {WORDS NEEDS : ℕ} {rows : NeedRows NEEDS} → Sized WORDS NEEDS p → NeedsChained p groups rows
-      → Sorting WORDS NEEDS p groups turns rows allowance before now t
+      → Sorting WORDS NEEDS p groups sort.turns.now rows allowance before now t
   sorting z c = record { ready = h.ready; chained = c; sized = z; size = h.size; turning = h.turning }
 
   -- or from a later one
   pub going-on : {now' : List ℕ} {t' : Turn} → length now' ≡ length now → Turning p groups allowance before now' t'
-      → Going p groups turns needs owners allowance before now' t'
+      → Going p groups sort allowance before now' t'
   going-on size turning = record { ready = h.ready; owned = h.owned; size = size ∙ h.size; turning = turning }

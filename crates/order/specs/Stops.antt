@@ -5,7 +5,6 @@ use Rattle.rules.specs.Items.{numbering, giving_modules, sort_modules}
 use Rattle.rules.specs.Calls.{item_list_limit, order_groups}
 use Rattle.graph.specs.Rows.{words_for}
 use Rattle.owners.specs.declared.NeedRows.{NeedRows}
-use Rattle.owners.specs.declared.Owners.{Owners}
 use Rattle.owners.specs.Owners.{Owned}
 use Rattle.owners.specs.NeedRows.{NeedsChained}
 use Rattle.giving.specs.Giving.{Stored}
@@ -14,6 +13,7 @@ use Rattle.walks.specs.declared.Stop.TheVariants.{Spent, Full, Crowded}
 use Rattle.walks.specs.Runs.{Ran}
 use Rattle.stmt.specs.declared.walk.Crowded.{Crowded as ListCrowded}
 use Rattle.group.specs.Sorts.{Sortable}
+use Rattle.order.specs.declared.tables.SortTurns.{SortTurns}
 use Rattle.order.specs.declared.turns.Turn.{Turn}
 use Rattle.order.specs.declared.turns.Turns.{Turns}
 use Rattle.order.specs.Turns.{Ready, Taking, Turning}
@@ -30,7 +30,7 @@ pub record SortTurn (WORDS NEEDS : ℕ) (p : Project) (earlier : List (List ℕ)
   pub taking : Taking p earlier members turns t out
   pub left-most : t.left ≤ module_limit
   pub made-most : t.made ≤ allowance
-  pub sortable : Sortable WORDS NEEDS p (giving_modules p earlier members) turns.items needs.section.now needs.chains.next (get_or needs.chains.heads t.left 0)
+  pub sortable : Sortable WORDS NEEDS p (giving_modules p earlier members) turns.items needs.section.now needs.chains.next (get_or needs.chains.heads (t.left - 1) 0)
   pub rows-room : t.kept + length (numbering p (giving_modules p earlier members)) ≤ length out
 
 -- What it comes to, as the definition's sort does: its rows, written behind those before, or that the list may not fit.
@@ -45,10 +45,9 @@ pub record Sized (WORDS NEEDS : ℕ) (p : Project) : Type 0 where
   pub places : length p.needs ≤ NEEDS
 
 -- What the turns from one on rely on: the sections of items and needs, the owner of each module, and all that turns rely on.
-pub record Going (p : Project) (groups : List (List ℕ)) (turns : Turns) (needs : List ℕ) (owners : Owners) (allowance : ℕ) (before now : List ℕ) (t : Turn)
-    : Type 0 where
-  pub ready : Ready p groups turns
-  pub owned : Owned p groups turns.items.section.now needs owners.array
+pub record Going (p : Project) (groups : List (List ℕ)) (sort : SortTurns) (allowance : ℕ) (before now : List ℕ) (t : Turn) : Type 0 where
+  pub ready : Ready p groups sort.turns.now
+  pub owned : Owned p groups sort.turns.now.items.section.now sort.needs.now sort.owners.now.array
   pub size : length now ≡ item_limit
   pub turning : Turning p groups allowance before now t
 

@@ -18,7 +18,7 @@ use project::sections::{ItemRow, NeedRow, Row};
 use split::rows::ItemRows;
 use std::convert::Infallible;
 use stmt::walk::ItemWalk;
-use tables::take_turns;
+use tables::SortTurns;
 use turns::{Turn, Turns};
 use walks::Stop;
 
@@ -53,56 +53,49 @@ impl Large {
     pub const MATRIX: usize = ROW_WORDS * Layout::ITEM_ROOM;
 }
 
-// The turns of the groups from one on, on arrays for any project.
-fn sort_large(
-    turns: &Turns,
-    needs: &[u8],
-    owners: &Owners,
-    first: Turn<'_>,
-    out: &mut [u8],
-    allowance: u32,
-) -> Result<(usize, u32), Stop<Infallible>>
-    requires { (p : Project) × (groups : List (List ℕ)) × (before : List ℕ) × Going p groups turns.now needs.now owners.now allowance before out.old first }
-    ensures { (p : Project) (groups : List (List ℕ)) (before : List ℕ)
-        → Going p groups turns.now needs.now owners.now allowance before out.old first.entry
-        → Ordered (order_groups p item_list_limit allowance [] groups [] 0) before out.new result }
-{
-    match take_turns::<{ Large::MATRIX }, { Layout::NEED_ROOM }, { ItemWalk::LIST }>(
-        turns, needs, owners, first, out, allowance,
-    ) {
-        Ok(sorted) => Ok(sorted),
-        Err(Stop::Spent(made)) => Err(Stop::Spent(made)),
-        Err(Stop::Full(made)) => Err(Stop::Full(made)),
-        // No list is longer than this array.
-        Err(Stop::Crowded(t)) => Err(Stop::Spent(t.made)),
+impl<'a> SortTurns<'a> {
+    // The turns of the groups from one on, on arrays for any project.
+    fn sort_large(
+        self,
+        first: Turn<'_>,
+        out: &mut [u8],
+        allowance: u32,
+    ) -> Result<(usize, u32), Stop<Infallible>>
+        requires { (p : Project) × (groups : List (List ℕ)) × (before : List ℕ) × Going p groups self allowance before out.old first }
+        ensures { (p : Project) (groups : List (List ℕ)) (before : List ℕ) → Going p groups self.entry allowance before out.old first.entry
+            → Ordered (order_groups p item_list_limit allowance [] groups [] 0) before out.new result }
+    {
+        match self.take::<{ Large::MATRIX }, { Layout::NEED_ROOM }, { ItemWalk::LIST }>(
+            first, out, allowance,
+        ) {
+            Ok(sorted) => Ok(sorted),
+            // No list is longer than this array, so that none may need a longer one.
+            Err(stop) => Err(Stop::Spent(stop.crowded()?.made)),
+        }
     }
-}
 
-// The turns of the groups from one on, some of them sorted. A project of usual size gets by with small arrays, which are quicker to make; where a list
-// may not fit its small array, the turns go on with large ones.
-fn sort_rest(
-    turns: &Turns,
-    needs: &[u8],
-    owners: &Owners,
-    first: Turn<'_>,
-    out: &mut [u8],
-    allowance: u32,
-) -> Result<(usize, u32), Stop<Infallible>>
-    requires { (p : Project) × (groups : List (List ℕ)) × (before : List ℕ) × Going p groups turns.now needs.now owners.now allowance before out.old first }
-    ensures { (p : Project) (groups : List (List ℕ)) (before : List ℕ)
-        → Going p groups turns.now needs.now owners.now allowance before out.old first.entry
-        → Ordered (order_groups p item_list_limit allowance [] groups [] 0) before out.new result }
-{
-    if Small::ITEM_BYTES < turns.items.section.len() || Small::NEED_BYTES < needs.len() {
-        return sort_large(turns, needs, owners, first, out, allowance);
-    }
-    match take_turns::<{ Small::MATRIX }, { Small::NEEDS }, { Small::LIST }>(
-        turns, needs, owners, first, out, allowance,
-    ) {
-        Ok(sorted) => Ok(sorted),
-        Err(Stop::Spent(made)) => Err(Stop::Spent(made)),
-        Err(Stop::Full(made)) => Err(Stop::Full(made)),
-        Err(Stop::Crowded(reached)) => sort_large(turns, needs, owners, reached, out, allowance),
+    // The turns of the groups from one on, some of them sorted. A project of usual size gets by with small arrays, which are quicker to make; where a list
+    // may not fit its small array, the turns go on with large ones.
+    fn sort_rest(
+        self,
+        first: Turn<'_>,
+        out: &mut [u8],
+        allowance: u32,
+    ) -> Result<(usize, u32), Stop<Infallible>>
+        requires { (p : Project) × (groups : List (List ℕ)) × (before : List ℕ) × Going p groups self allowance before out.old first }
+        ensures { (p : Project) (groups : List (List ℕ)) (before : List ℕ) → Going p groups self.entry allowance before out.old first.entry
+            → Ordered (order_groups p item_list_limit allowance [] groups [] 0) before out.new result }
+    {
+        let turns = self.turns;
+        if Small::ITEM_BYTES < turns.items.section.len() || Small::NEED_BYTES < self.needs.len() {
+            return self.sort_large(first, out, allowance);
+        }
+        match self.take::<{ Small::MATRIX }, { Small::NEEDS }, { Small::LIST }>(
+            first, out, allowance,
+        ) {
+            Ok(sorted) => Ok(sorted),
+            Err(stop) => self.sort_large(stop.crowded()?, out, allowance),
+        }
     }
 }
 
@@ -131,5 +124,10 @@ pub fn sort_groups(
         return Ok((first.kept, first.made));
     }
     let owners = Owners::new(groups, count);
-    sort_rest(&turns, needs, &owners, first, out, allowance)
+    let sort = SortTurns {
+        turns: &turns,
+        needs,
+        owners: &owners,
+    };
+    sort.sort_rest(first, out, allowance)
 }

@@ -6,12 +6,12 @@ ghost use Rattle.stmt.specs.declared.walk.Crowded.{Crowded as ListCrowded};
 ghost use Rattle.order.specs.Stops.{stopped_as, SortTurn, Sorts, Sorting, Going, Turned, Sized};
 
 use crate::turns::{Turn, Turns};
-use giving::{GivingModules, keeps_row_order};
+use giving::{giving_modules, keeps_row_order};
 use group::Sort;
 use owners::{NeedRows, Owners};
 use project::reader::Lists;
 use stmt::walk::Crowded;
-use walks::Stop;
+use walks::{Allowance, Stop};
 
 // How the turns stop where the sort of a group stops in turn t.
 fn stopped<'a>(stop: Stop<Crowded>, t: Turn<'a>) -> Stop<Turn<'a>>
@@ -40,14 +40,16 @@ fn sort_group<const WORDS: usize, const NEEDS: usize, const ENTRIES: usize>(
         → Sorts ENTRIES p earlier members.now allowance t.entry out.old out.new result }
     ensures kept { (stop : Stopped ListCrowded) → result ≡ Err stop → out.new ≡ out.old }
 {
-    let given = GivingModules::new(members, t.used, turns.givers);
+    let given = giving_modules(members, t.used, turns.givers);
     let (_, made) = sort.sort_stmts(
         &turns.items,
         needs.section,
-        needs.of_group(t.left),
-        given.modules(),
-        allowance,
-        t.made,
+        needs.of_group(t.left - 1),
+        given.as_slice(),
+        Allowance {
+            visits: allowance,
+            made: t.made,
+        },
     )?;
     let kept = sort.write_rows(out, t.kept);
     Ok((kept, made))
@@ -82,26 +84,34 @@ fn sort_turns<'a, const WORDS: usize, const NEEDS: usize, const ENTRIES: usize>(
     Ok((t.kept, t.made))
 }
 
-// Chains the needs and takes the turns from one on. The arrays stand in a stack frame of their own, so that a project that gets by with small ones makes
-// no large ones.
-#[inline(never)]
-pub fn take_turns<'b, const WORDS: usize, const NEEDS: usize, const ENTRIES: usize>(
-    turns: &Turns,
-    needs: &[u8],
-    owners: &Owners,
-    first: Turn<'b>,
-    out: &mut [u8],
-    allowance: u32,
-) -> Result<(usize, u32), Stop<Turn<'b>>>
-    requires bounds { (WORDS ≤ 65536) × (NEEDS < 65536) × (ENTRIES ≤ 65536) }
-    requires going { (p : Project) × (groups : List (List ℕ)) × (before : List ℕ)
-        × Going p groups turns.now needs.now owners.now allowance before out.old first × Sized WORDS NEEDS p }
-    ensures { (p : Project) (groups : List (List ℕ)) (before : List ℕ)
-        → Going p groups turns.now needs.now owners.now allowance before out.old first.entry → Sized WORDS NEEDS p
-        → Turned ENTRIES p groups allowance before out.new result }
-{
-    // In one struct with the needs, or made behind them, the arrays would be cleared twice.
-    let mut sort = Sort::<WORDS, NEEDS, ENTRIES>::new();
-    let needs = NeedRows::new(needs, turns.items.section, owners);
-    sort_turns(&mut sort, &needs, turns, first, out, allowance)
+// What the turns read where groups are sorted: also the needs, and the owner of each module.
+#[derive(Clone, Copy)]
+pub struct SortTurns<'a> {
+    pub turns: &'a Turns<'a>,
+    pub needs: &'a [u8],
+    pub owners: &'a Owners,
+}
+
+impl<'a> SortTurns<'a> {
+    // Chains the needs and takes the turns from one on. The arrays stand in a stack frame of their own, so that a project that gets by with small ones
+    // makes no large ones.
+    #[inline(never)]
+    pub fn take<'b, const WORDS: usize, const NEEDS: usize, const ENTRIES: usize>(
+        self,
+        first: Turn<'b>,
+        out: &mut [u8],
+        allowance: u32,
+    ) -> Result<(usize, u32), Stop<Turn<'b>>>
+        requires bounds { (WORDS ≤ 65536) × (NEEDS < 65536) × (ENTRIES ≤ 65536) }
+        requires going { (p : Project) × (groups : List (List ℕ)) × (before : List ℕ) × Going p groups self allowance before out.old first × Sized WORDS NEEDS p }
+        ensures { (p : Project) (groups : List (List ℕ)) (before : List ℕ)
+            → Going p groups self.entry allowance before out.old first.entry → Sized WORDS NEEDS p
+            → Turned ENTRIES p groups allowance before out.new result }
+    {
+        // In one struct with the needs, or made behind them, the arrays would be cleared twice.
+        let mut sort = Sort::<WORDS, NEEDS, ENTRIES>::new();
+        let turns = self.turns;
+        let needs = NeedRows::new(self.needs, turns.items.section, self.owners);
+        sort_turns(&mut sort, &needs, turns, first, out, allowance)
+    }
 }

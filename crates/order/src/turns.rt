@@ -5,7 +5,7 @@ ghost use Rattle.rules.specs.Calls.{group_bytes};
 ghost use Rattle.giving.specs.Giving.{Members};
 
 use giving;
-use giving::{GivingModules, kept};
+use giving::{giving_modules, kept};
 use project::reader::Lists;
 use split::rows::ItemRows;
 
@@ -56,8 +56,8 @@ impl<'a> Turns<'a> {
         ensures { (p : Project) (earlier : List (List ℕ)) → Taking p earlier members.now self.now t.entry out.old
             → Took p earlier members.now t.entry out.old out.new result }
     {
-        let given = GivingModules::new(members, t.used, self.givers);
-        let kept = kept::write_given(&self.items, given.modules(), out, t.kept);
+        let given = giving_modules(members, t.used, self.givers);
+        let kept = kept::write_given(&self.items, given.as_slice(), out, t.kept);
         t.after(members, kept, t.made)
     }
 

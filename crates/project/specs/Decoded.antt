@@ -13,7 +13,7 @@ abbrev pub import_of : ℕ → ℕ → ImportRow
 import_of a b = record { importer = record { 0 = a }; imported = record { 0 = b } }
 
 abbrev pub need_of : ℕ → ℕ → ℕ → NeedRow
-need_of a b c = record { dependant = record { 0 = a }; dependency = record { 0 = b }; weight = c }
+need_of a b c = record { dependant = record { 0 = a }; dependency = record { 0 = b }; weight = record { 0 = c } }
 
 -- the row at a position
 abbrev pub item_row_at : List ℕ → ℕ → ItemRow
@@ -33,4 +33,4 @@ abbrev pub import_in : ImportRow → Import
 import_in row = import_row row.importer.0 row.imported.0
 
 abbrev pub need_in : NeedRow → Need
-need_in row = need_row row.dependant.0 row.dependency.0 row.weight
+need_in row = need_row row.dependant.0 row.dependency.0 row.weight.0

@@ -109,14 +109,14 @@ impl<'a> Header<'a> {
     fn end_of(self, s: Section) -> u64
         ensures { result ≡ end_of self.entry.bytes.now (place_of s) }
     {
-        self.offset_of(s) as u64 + self.length_of(s) as u64
+        u64::from(self.offset_of(s)) + u64::from(self.length_of(s))
     }
 
     // Whether a section starts elsewhere than another ends.
     fn starts_apart(self, s: Section, before: Section) -> bool
         ensures { result ≡ not (eqb (offset_of self.entry.bytes.now (place_of s)) (end_of self.entry.bytes.now (place_of before))) }
     {
-        self.offset_of(s) as u64 != self.end_of(before)
+        u64::from(self.offset_of(s)) != self.end_of(before)
     }
 
     // 2, "edition not 1, or byte 3 not 0".

@@ -1,5 +1,5 @@
-// The kinds of items, by the paper's numbers.
-ghost use Rattle.std.specs.Prelude.{ℕ, ◌≡◌, eqb, Some};
+// The kinds of items and the weights of needs, by the paper's numbers.
+ghost use Rattle.std.specs.Prelude.{ℕ, ◌≡◌, eqb, ltb, Some};
 ghost use Rattle.rules.specs.Items.{is_kept, is_injected, may_drop};
 ghost use Rattle.project.specs.Kinds.{kept_by, injected_by, may_drop_by, Says};
 
@@ -83,5 +83,24 @@ impl KindByte {
         ensures { (weight : ℕ) → weak ≡ eqb weight 1 → result ≡ may_drop self.0 weight }
     {
         self.kind().is_some_and(|kind| kind.may_drop(weak))
+    }
+}
+
+// The byte that a need's weight is read from: 0 for Always, 1 for Maybe. One above 1 is no weight: number 9 of the table turns it down.
+#[derive(Clone, Copy, PartialEq, Eq)]
+pub struct WeightByte(pub u8);
+
+impl WeightByte {
+    pub fn is_maybe(self) -> bool
+        ensures { result ≡ eqb self.0 1 }
+    {
+        self.0 == 1
+    }
+
+    // Whether it is no weight.
+    pub fn is_none(self) -> bool
+        ensures { result ≡ ltb 1 self.0 }
+    {
+        1 < self.0
     }
 }

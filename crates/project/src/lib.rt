@@ -15,7 +15,7 @@ ghost use Rattle.project.specs.Passed.{Measured};
 use header::Header;
 use sections::{ItemRow, Row};
 
-// The number of a module. Modules and items are counted separately.
+// The number of a module. Modules and items are counted separately. It has no bound: the bytes of a project that is turned down may name any.
 #[derive(Clone, Copy, PartialEq, Eq)]
 pub struct ModuleId(pub u8);
 
@@ -31,7 +31,7 @@ impl From<ModuleId> for usize {
     ghost from_gives = { λ m r. r ≡ m.0 };
 
     fn from(m: ModuleId) -> usize {
-        m.0 as usize
+        usize::from(m.0)
     }
 }
 
@@ -39,7 +39,7 @@ impl From<ItemId> for usize {
     ghost from_gives = { λ i r. r ≡ i.0 };
 
     fn from(i: ItemId) -> usize {
-        i.0 as usize
+        usize::from(i.0)
     }
 }
 
@@ -47,7 +47,7 @@ impl From<NodeId> for usize {
     ghost from_gives = { λ n r. r ≡ n.0 };
 
     fn from(n: NodeId) -> usize {
-        n.0 as usize
+        usize::from(n.0)
     }
 }
 

@@ -90,7 +90,7 @@ impl<'a> Iterator for Lists<'a> {
 
     fn next(&mut self) -> Option<&'a [u8]> {
         let (count, rest) = self.bytes.split_first()?;
-        let (list, rest) = rest.split_at(*count as usize);
+        let (list, rest) = rest.split_at(usize::from(*count));
         self.bytes = rest;
         Some(list)
     }

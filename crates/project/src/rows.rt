@@ -25,14 +25,14 @@ fn bad_import(row: ImportRow, modules: u8) -> bool
     (modules <= importer) | (modules <= imported) | (importer == imported)
 }
 
-// 9, of one row.
+// 9, of one row. A trait of rows with two ends would be longer than this and 7.
 #[tactic(auto, unfolding(rules::specs::Project::bad_need))]
 fn bad_need(row: NeedRow, items: u16) -> bool
     ensures { result ≡ bad_need items (need_in row) }
 {
     let dependant = row.dependant.0;
     let dependency = row.dependency.0;
-    (items <= dependant) | (items <= dependency) | (dependant == dependency) | (1 < row.weight)
+    (items <= dependant) | (items <= dependency) | (dependant == dependency) | row.weight.is_none()
 }
 
 // 6, "module not below M, or kind above 5".

@@ -6,7 +6,7 @@ ghost use Rattle.project.specs.Decoded.{item_row_at, import_row_at, need_row_at,
 ghost use Rattle.project.specs.DecodedLaws.{item_within, import_within, need_within};
 ghost use Rattle.project.specs.RowLaws.{pairs_first, pairs_none, needs_first, needs_none};
 
-use super::kinds::KindByte;
+use super::kinds::{KindByte, WeightByte};
 use super::{ItemId, ModuleId};
 
 // What each kind of row is decoded by.
@@ -26,7 +26,7 @@ pub trait Row: Copy {
 
     ghost rows: { List ℕ → List Paper };
 
-    // The row that bytes begin with.
+    // The row that bytes begin with. Each kind of row decodes fields of its own.
     fn decode(bytes: &[u8]) -> Self
         requires { BYTES ≤ length bytes.now }
         ensures { result ≡ row_at bytes.now 0 };
@@ -125,7 +125,7 @@ impl Row for ImportRow {
 pub struct NeedRow {
     pub dependant: ItemId,
     pub dependency: ItemId,
-    pub weight: u8,
+    pub weight: WeightByte,
 }
 
 impl Row for NeedRow {
@@ -151,9 +151,9 @@ impl Row for NeedRow {
 
     fn decode(bytes: &[u8]) -> NeedRow {
         NeedRow {
-            dependant: ItemId(bytes[0] as u16),
-            dependency: ItemId(bytes[1] as u16),
-            weight: bytes[2],
+            dependant: ItemId(u16::from(bytes[0])),
+            dependency: ItemId(u16::from(bytes[1])),
+            weight: WeightByte(bytes[2]),
         }
     }
 }

@@ -7,13 +7,14 @@ use Rattle.walks.specs.declared.Stop.{Stop as WalkStop}
 use Rattle.walks.specs.declared.Stop.TheVariants.{Spent as WalkSpent, Full as WalkFull, Crowded}
 use Rattle.sort.specs.declared.Numbers.{Numbers}
 use Rattle.sort.specs.declared.Refusal.{Refusal}
-use Rattle.sort.specs.declared.Refusal.TheVariants.{ShortReply, Spent, Full}
+use Rattle.sort.specs.declared.Refusal.TheVariants.{ShortReply, Spent, Full, ShortReport}
 
 -- The paper's number of a refusal.
 abbrev pub number_of : Refusal → ℕ
 number_of ShortReply = 10
 number_of Spent = 11
 number_of Full = 12
+number_of ShortReport = 13
 
 -- A walk that has not ended is refused, with the visits made.
 abbrev pub refusal_of : WalkStop Infallible → Refusal × ℕ

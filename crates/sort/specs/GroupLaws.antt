@@ -1,19 +1,19 @@
 -- Laws for the proofs of the groups call. Assumes nothing.
-use Rattle.std.specs.Prelude.{ℕ, ◌+◌, ◌*◌, ◌≤◌, ◌<◌, ◌≡◌, refl, false, take, Result, Ok, Err}
+use Rattle.std.specs.Prelude.{ℕ, ◌+◌, ◌*◌, ◌≤◌, ◌<◌, ◌≡◌, refl, take, Result, Ok, Err}
 use Rattle.std.specs.declared.convert.Infallible.{Infallible}
 use Rattle.std.proofs.Common.{arith, mul-le-mul, ◌∙◌, lt-ltb, le-ltb}
 use Rattle.std.proofs.Math.Nat.{le_trans}
 use Rattle.std.proofs.Math.Path.{sym, ap, subst}
 use mathlib.Core.List.{List}
 use Rattle.std.proofs.Math.ListN.{length}
-use Rattle.rules.specs.Project.{Project, refused, read, project_of, module_limit, import_row, pair_rows, circle_lists, bad_circles}
+use Rattle.rules.specs.Project.{Project, refused, read, project_of, module_limit, section}
 use Rattle.rules.specs.Walk.{Stop, finished}
 use Rattle.rules.specs.Modules.{ModuleState, groups_in_order, run_modules}
 use Rattle.rules.specs.Calls.{refusal, module_list_limit, overwrite, group_bytes, groups_bytes, groups_answer, groups_of_project, groups_call}
 use Rattle.laws.specs.Accepted.{Accepted, read-accepted, read-passes}
 use Rattle.laws.specs.ModuleWalk.{groups-made, groups-fit}
 use Rattle.laws.proofs.Calls.{groups-short, groups-long}
-use Rattle.project.specs.Sections.{Accepts, part}
+use Rattle.project.specs.Sections.{Accepts}
 use Rattle.project.specs.declared.Layout.{Layout}
 use Rattle.walks.specs.declared.Stop.{Stop as WalkStop}
 use Rattle.walks.specs.Runs.{Ran, has_finished, was_spent, list_was_full, was_crowded}
@@ -82,18 +82,16 @@ module _ (bytes : List ℕ) {l : Layout} (a : Accepts bytes l) where
   project-accepted : Accepted p
   project-accepted = read-accepted bytes p a.reads
 
-  pub groupable : Groupable p (part l.items_end l.imports_end bytes) (part l.imports_end l.circles_end bytes) l.modules l.entry.0
+  pub groupable : Groupable p (section bytes 1) (section bytes 2) l.modules l.entry.0
   unfolding project_of
   groupable =
       record {
         accepted = project-accepted;
         modules = sym a.modules;
         entry = sym a.entry;
-        imports = ap (pair_rows import_row) a.sections.imports;
-        circles = ap circle_lists a.sections.circles;
-        sound =
-            sound-wider p.modules module_limit 0 _ project-accepted.modules-most
-            (subst (λ (b : List ℕ). bad_circles p.modules 0 b ≡ false) a.sections.circles (read-passes bytes p a.reads).0.no-bad-circle);
+        imports = refl;
+        circles = refl;
+        sound = sound-wider p.modules module_limit 0 _ project-accepted.modules-most (read-passes bytes p a.reads).0.no-bad-circle;
       }
 
   pub answerable : (allowance : ℕ) {out reply : List ℕ} {found : Result (ModuleWalk × ℕ) (WalkStop Infallible)} → length out ≡ module_limit * (module_limit + 1)

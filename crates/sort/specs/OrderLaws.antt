@@ -12,7 +12,7 @@ use Rattle.std.proofs.lemmas.List.Edits.{sets, sets-eq}
 use Rattle.std.proofs.Math.Seq.{length-sets}
 use Rattle.std.proofs.lemmas.Bool.{eqb-false}
 use Rattle.rules.specs.Lists.{up_from}
-use Rattle.rules.specs.Project.{Project, Reading, refused, accepted, read, project_of, module_limit, item_limit, item_row, import_row, pair_rows, need_rows}
+use Rattle.rules.specs.Project.{Project, Reading, refused, accepted, read, project_of, section, module_limit, item_limit, item_row}
 use Rattle.rules.specs.Walk.{Stop, finished, spent, full}
 use Rattle.rules.specs.Modules.{ModuleState, groups_of, groups_in_order, module_walk, run_modules}
 use Rattle.rules.specs.Items.{kept_rows}
@@ -24,8 +24,7 @@ use Rattle.laws.specs.ModuleWalk.{WalkedIn, walked, groups-made}
 use Rattle.laws.proofs.Splits.{kept_rows-∈, once-kept_rows}
 use Rattle.laws.proofs.Calls.{order-of, order-short, order-long}
 use Rattle.laws.proofs.GivenOrders.{kept-count}
-use Rattle.project.specs.Sections.{Accepts, part}
-use Rattle.project.specs.declared.Layout.{Layout}
+use Rattle.project.specs.RowLaws.{pairs-length}
 use Rattle.chunk.specs.declared.walk.ModuleWalk.{ModuleWalk}
 use Rattle.walks.specs.declared.Stop.{Stop as WalkStop}
 use Rattle.order.specs.Orders.{Orderable, Ordered}
@@ -106,30 +105,27 @@ visits-within {p} a allowance {s} {n} e = go (rw e at (walked a module_list_limi
     go (at-end w f h) = h
 
 -- The groups that the walk of an accepted project has found.
-module _ {bytes : List ℕ} {l : Layout} {groups reply : List ℕ} {count visits allowance : ℕ} {s : ModuleState}
-    (f : Found bytes l groups count visits reply allowance s) where
+module _ {bytes groups reply : List ℕ} {count visits allowance : ℕ} {s : ModuleState} (f : Found bytes groups count visits reply allowance s) where
   abbrev p : Project
   p = project_of bytes
 
   project-accepted : Accepted p
-  project-accepted = read-accepted bytes p f.ready.accepts.reads
+  project-accepted = read-accepted bytes p f.ready.reads
 
   pub found-visits : visits ≤ allowance
   found-visits = visits-within project-accepted allowance f.grouped
 
   pub orderable : {out : List ℕ} → length out ≡ item_limit
-      → Orderable p (groups_in_order s) (part 36 l.items_end bytes) (part l.items_end l.imports_end bytes)
-      (part l.circles_end (length bytes) bytes) groups count out
+      → Orderable p (groups_in_order s) (section bytes 0) (section bytes 1) (section bytes 3) groups count out
   unfolding project_of groups_in_order groups_bytes
   orderable size =
-      let sections = f.ready.accepts.sections in
       let made = groups-made project-accepted module_list_limit allowance s visits f.grouped in
       let most : p.modules ≤ module_limit = project-accepted.modules-most in
       record {
         accepted = project-accepted;
-        items-are = ap (pair_rows item_row) sections.items;
-        imports-are = ap (pair_rows import_row) sections.imports;
-        needs-are = ap need_rows sections.needs;
+        items-are = refl;
+        imports-are = refl;
+        needs-are = refl;
         bytes-are = f.bytes-are;
         count-is = f.count-is ∙ sym (length-reverse (groups_of s));
         count_most = omega (arith, f.count-is, made.count);
@@ -177,42 +173,42 @@ after-halted p allowance (halted_spent e) = rw e
 after-halted p allowance (halted_full e) = rw e
 
 -- From the module walk to the sort of its groups.
-module _ {bytes : List ℕ} {l : Layout} {groups reply : List ℕ} {allowance : ℕ} where
-  pub found : {w : ModuleWalk} {n : ℕ} (k : Walked bytes l groups reply allowance (Ok (w, n)))
-      → Found bytes l (take w.used groups) w.groups n reply allowance (finished-of k.ran).0
+module _ {bytes groups reply : List ℕ} {allowance : ℕ} where
+  pub found : {w : ModuleWalk} {n : ℕ} (k : Walked bytes groups reply allowance (Ok (w, n)))
+      → Found bytes (take w.used groups) w.groups n reply allowance (finished-of k.ran).0
   found k =
       let e = finished-of k.ran in
       record { ready = k.ready; grouped = e.1; bytes-are = e.2.bytes; count-is = e.2.count }
 
-  pub sorts-finished : {w : ModuleWalk} {n : ℕ} {after : List ℕ} {r : Numbers} (k : Walked bytes l groups reply allowance (Ok (w, n)))
-      → ((s : ModuleState) → Found bytes l (take w.used groups) w.groups n reply allowance s
+  pub sorts-finished : {w : ModuleWalk} {n : ℕ} {after : List ℕ} {r : Numbers} (k : Walked bytes groups reply allowance (Ok (w, n)))
+      → ((s : ModuleState) → Found bytes (take w.used groups) w.groups n reply allowance s
       → Answered
       (order_answer (project_of bytes) (length (groups_of s)) n (order_groups (project_of bytes) item_list_limit (allowance - n) [] (groups_in_order s) [] 0)) reply after r)
       → Answered (after_groups (project_of bytes) allowance (run_modules (project_of bytes) module_list_limit allowance)) reply after r
   unfolding after_groups
   sorts-finished k h = rw (finished-of k.ran).1 (h _ (found k))
 
-  pub sorts-stopped : {d : WalkStop Infallible} → Walked bytes l groups reply allowance (Err d)
+  pub sorts-stopped : {d : WalkStop Infallible} → Walked bytes groups reply allowance (Err d)
       → Answered (after_groups (project_of bytes) allowance (run_modules (project_of bytes) module_list_limit allowance)) reply reply
       (numbers_of (refusal (number_of (refusal_of d).0) (refusal_of d).1 0))
   sorts-stopped {d} k =
       rw (after-halted (project_of bytes) allowance (halted-of k.ran)) (refuses (number_of (refusal_of d).0) (refusal_of d).1 0 reply)
 
 -- Number 10, and an answer behind it.
-module _ (bytes : List ℕ) {l : Layout} (a : Accepts bytes l) (allowance : ℕ) (reply : List ℕ) where
-  rows-count : order_bytes (project_of bytes) ≡ (l.items_end - 36) / 2
+module _ (bytes : List ℕ) (allowance : ℕ) (reply : List ℕ) where
+  rows-count : order_bytes (project_of bytes) ≡ length (section bytes 0) / 2
   unfolding order_bytes project_of
-  rows-count = a.sections.items-count
+  rows-count = pairs-length item_row (section bytes 0)
 
-  pub order-answers-short : length reply < (l.items_end - 36) / 2
+  pub order-answers-short : length reply < length (section bytes 0) / 2
       → Answered (order_of_project (project_of bytes) (length reply) allowance) reply reply (numbers_of (refusal 10 0 0))
   order-answers-short h =
       rw (order-short (project_of bytes) (length reply) allowance (lt-ltb (length reply) (order_bytes (project_of bytes)) (rw rows-count h))) (refuses 10 0 0 reply)
 
-  pub ready : (l.items_end - 36) / 2 ≤ length reply → 1 ≤ allowance → Ready bytes l reply allowance
-  ready h k = record { accepts = a; room = rw rows-count h; some = k }
+  pub ready : read bytes ≡ accepted (project_of bytes) → length (section bytes 0) / 2 ≤ length reply → 1 ≤ allowance → Ready bytes reply allowance
+  ready reads h k = record { reads = reads; room = rw rows-count h; some = k }
 
-  pub order-answers-long : {after : List ℕ} {r : Numbers} → (l.items_end - 36) / 2 ≤ length reply
+  pub order-answers-long : {after : List ℕ} {r : Numbers} → length (section bytes 0) / 2 ≤ length reply
       → Answered (after_groups (project_of bytes) allowance (run_modules (project_of bytes) module_list_limit allowance)) reply after r
       → Answered (order_of_project (project_of bytes) (length reply) allowance) reply after r
   order-answers-long h k =

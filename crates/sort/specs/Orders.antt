@@ -1,13 +1,11 @@
 -- What the order call relies on between its functions. Assumes nothing.
 use Rattle.std.specs.Prelude.{ℕ, ◌+◌, ◌*◌, ◌≤◌, ◌≡◌, List, length, Result}
 use Rattle.std.specs.declared.convert.Infallible.{Infallible}
-use Rattle.rules.specs.Project.{Project, project_of, module_limit, item_limit}
+use Rattle.rules.specs.Project.{Project, project_of, accepted, read, module_limit, item_limit}
 use Rattle.rules.specs.Walk.{Stop, finished}
 use Rattle.rules.specs.Modules.{ModuleState, groups_of, groups_in_order, run_modules}
 use Rattle.rules.specs.Items.{kept_rows}
 use Rattle.rules.specs.Calls.{module_list_limit, order_bytes, group_bytes}
-use Rattle.project.specs.Sections.{Accepts}
-use Rattle.project.specs.declared.Layout.{Layout}
 use Rattle.walks.specs.declared.Stop.{Stop as WalkStop}
 use Rattle.walks.specs.Runs.{Ran}
 use Rattle.chunk.specs.Walks.{Holds}
@@ -15,20 +13,20 @@ use Rattle.chunk.specs.declared.walk.ModuleWalk.{ModuleWalk}
 use Rattle.order.specs.Orders.{Ordered}
 
 -- An accepted project and a reply that is long enough, with an allowance that is not 0.
-pub record Ready (bytes : List ℕ) (l : Layout) (reply : List ℕ) (allowance : ℕ) : Type 0 where
-  pub accepts : Accepts bytes l
+pub record Ready (bytes reply : List ℕ) (allowance : ℕ) : Type 0 where
+  pub reads : read bytes ≡ accepted (project_of bytes)
   pub room : order_bytes (project_of bytes) ≤ length reply
   pub some : 1 ≤ allowance
 
 -- The module walk has stopped: where it has finished, its groups stand in front of `groups`.
-pub record Walked (bytes : List ℕ) (l : Layout) (groups reply : List ℕ) (allowance : ℕ) (found : Result (ModuleWalk × ℕ) (WalkStop Infallible)) : Type 0 where
-  pub ready : Ready bytes l reply allowance
+pub record Walked (bytes groups reply : List ℕ) (allowance : ℕ) (found : Result (ModuleWalk × ℕ) (WalkStop Infallible)) : Type 0 where
+  pub ready : Ready bytes reply allowance
   pub size : length groups ≡ module_limit * (module_limit + 1)
   pub ran : Ran (run_modules (project_of bytes) module_list_limit allowance) (Holds groups) (λ _. ⊥) found
 
 -- The module walk has finished, and `groups` are the bytes of its groups.
-pub record Found (bytes : List ℕ) (l : Layout) (groups : List ℕ) (count visits : ℕ) (reply : List ℕ) (allowance : ℕ) (s : ModuleState) : Type 0 where
-  pub ready : Ready bytes l reply allowance
+pub record Found (bytes groups : List ℕ) (count visits : ℕ) (reply : List ℕ) (allowance : ℕ) (s : ModuleState) : Type 0 where
+  pub ready : Ready bytes reply allowance
   pub grouped : run_modules (project_of bytes) module_list_limit allowance ≡ finished s visits
   pub bytes-are : groups ≡ group_bytes (groups_in_order s)
   pub count-is : count ≡ length (groups_of s)

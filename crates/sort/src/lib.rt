@@ -1,6 +1,7 @@
 // The groups call and the order call.
 #![tactic(auto)]
 
+mod accepted;
 pub mod entry;
 pub mod groups_entry;
 mod report;
@@ -12,12 +13,12 @@ ghost use Rattle.rules.specs.Modules.{ModuleState, groups_of, groups_in_order, r
 ghost use Rattle.rules.specs.Calls.{refusal, allowed, overwrite, module_list_limit, item_list_limit, groups_answer, groups_of_project, groups_call, order_groups, order_answer, after_groups, order_of_project, order_call};
 ghost use Rattle.walks.specs.Runs.{Ran};
 ghost use Rattle.chunk.specs.Walks.{Holds};
-ghost use Rattle.project.specs.Sections.{Accepts};
 ghost use Rattle.sort.specs.Answers.{number_of, refusal_of, numbers_of, Answered};
 ghost use Rattle.sort.specs.Guarantees.{GroupsGuaranteed, OrderGuaranteed};
 ghost use Rattle.sort.specs.Groups.{Answerable};
 ghost use Rattle.sort.specs.Orders.{Walked, Found, Givable};
 
+use accepted::AcceptedProject;
 use chunk::arrays::Arrays;
 use chunk::walk::{self, ModuleWalk};
 use order::sort_groups;
@@ -29,12 +30,13 @@ use walks::Stop;
 // The visits that an allowance of 0 stands for.
 const USUAL_ALLOWANCE: u32 = 20000;
 
-// Why an accepted project is not answered.
+// Why an accepted project is not answered, or an entry makes no call.
 #[derive(Clone, Copy, PartialEq, Eq, Debug)]
 enum Refusal {
     ShortReply,
     Spent,
     Full,
+    ShortReport,
 }
 
 impl From<Refusal> for u32 {
@@ -46,6 +48,7 @@ impl From<Refusal> for u32 {
             Refusal::ShortReply => 10,
             Refusal::Spent => 11,
             Refusal::Full => 12,
+            Refusal::ShortReport => 13,
         }
     }
 }
@@ -109,43 +112,40 @@ pub fn groups(project: &[u8], reply: &mut [u8], allowance: u32) -> Numbers
     ensures answer { Answered (groups_call project.now (length reply.old) allowance) reply.old reply.new result }
     ensures guarantees { GroupsGuaranteed project.now reply.old allowance result }
 {
-    match project::read(project) {
+    match AcceptedProject::read(project) {
         Err(r) => Numbers::refusal(r.into(), 0, 0),
-        Ok(l) => groups_of(project, l, reply, allowed(allowance)),
+        Ok(accepted) => groups_of(accepted, reply, allowed(allowance)),
     }
 }
 
 // The module walk of an accepted project, which leaves its groups in `arrays`. Where it has not finished, what these hold is left free.
 fn find_groups(
-    project: &[u8],
-    l: Layout,
+    project: AcceptedProject<'_>,
     arrays: &mut Arrays,
     allowance: u32,
 ) -> Result<(ModuleWalk, u32), Stop<Infallible>>
-    requires { Accepts project.now l }
-    ensures { Ran (run_modules (project_of project.now) module_list_limit allowance) (Holds arrays.new.groups) (λ _. ⊥) result }
+    ensures { Ran (run_modules (project_of project.entry.bytes.now) module_list_limit allowance) (Holds arrays.new.groups) (λ _. ⊥) result }
 {
     walk::toposort_real_module_ids(
-        &project[l.items_end..l.imports_end],
-        &project[l.imports_end..l.circles_end],
-        l.modules,
-        l.entry,
+        project.imports(),
+        project.circles(),
+        project.l.modules,
+        project.l.entry,
         arrays,
         allowance,
     )
 }
 
 // The groups call on an accepted project.
-fn groups_of(project: &[u8], l: Layout, reply: &mut [u8], allowance: u32) -> Numbers
-    requires { Accepts project.now l }
-    ensures { Answered (groups_of_project (project_of project.now) (length reply.old) allowance) reply.old reply.new result }
+fn groups_of(project: AcceptedProject<'_>, reply: &mut [u8], allowance: u32) -> Numbers
+    ensures { Answered (groups_of_project (project_of project.entry.bytes.now) (length reply.old) allowance) reply.old reply.new result }
 {
-    let m = l.modules as usize;
+    let m = usize::from(project.l.modules);
     if reply.len() < m * (m + 1) {
         return Numbers::refusal(Refusal::ShortReply.into(), 0, 0);
     }
     let mut arrays = Arrays::new();
-    let found = find_groups(project, l, &mut arrays, allowance);
+    let found = find_groups(project, &mut arrays, allowance);
     give_groups(found, &arrays.groups, reply)
 }
 
@@ -181,43 +181,41 @@ pub fn order(project: &[u8], reply: &mut [u8], allowance: u32) -> Numbers
     ensures answer { Answered (order_call project.now (length reply.old) allowance) reply.old reply.new result }
     ensures guarantees { OrderGuaranteed project.now reply.old allowance reply.new result }
 {
-    match project::read(project) {
+    match AcceptedProject::read(project) {
         Err(r) => Numbers::refusal(r.into(), 0, 0),
-        Ok(l) => order_of(project, l, reply, allowed(allowance)),
+        Ok(accepted) => order_of(accepted, reply, allowed(allowance)),
     }
 }
 
 // The order call on an accepted project. All groups are found before the first is sorted.
-fn order_of(project: &[u8], l: Layout, reply: &mut [u8], allowance: u32) -> Numbers
-    requires accepts { Accepts project.now l }
-    requires le_allowance { 1 ≤ allowance }
-    ensures { Answered (order_of_project (project_of project.now) (length reply.old) allowance) reply.old reply.new result }
+fn order_of(project: AcceptedProject<'_>, reply: &mut [u8], allowance: u32) -> Numbers
+    requires { 1 ≤ allowance }
+    ensures { Answered (order_of_project (project_of project.entry.bytes.now) (length reply.old) allowance) reply.old reply.new result }
 {
-    if reply.len() < (l.items_end - Layout::START) / ItemRow::BYTES {
+    if reply.len() < project.items().len() / ItemRow::BYTES {
         return Numbers::refusal(Refusal::ShortReply.into(), 0, 0);
     }
     let mut arrays = Arrays::new();
-    let found = find_groups(project, l, &mut arrays, allowance);
-    sort_found(project, l, found, &arrays.groups, reply, allowance)
+    let found = find_groups(project, &mut arrays, allowance);
+    sort_found(project, found, &arrays.groups, reply, allowance)
 }
 
 // Goes on from the module walk: where it has finished, its groups are sorted.
 fn sort_found(
-    project: &[u8],
-    l: Layout,
+    project: AcceptedProject<'_>,
     found: Result<(ModuleWalk, u32), Stop<Infallible>>,
     groups: &[u8],
     reply: &mut [u8],
     allowance: u32,
 ) -> Numbers
-    requires { Walked project.now l groups.now reply.old allowance found }
-    ensures { Answered (after_groups (project_of project.now) allowance (run_modules (project_of project.now) module_list_limit allowance))
+    requires { Walked project.bytes.now groups.now reply.old allowance found }
+    ensures { Answered
+        (after_groups (project_of project.entry.bytes.now) allowance (run_modules (project_of project.entry.bytes.now) module_list_limit allowance))
         reply.old reply.new result }
 {
     match found {
         Ok((w, visits)) => sort_items(
             project,
-            l,
             &groups[..w.used],
             w.groups,
             visits,
@@ -233,27 +231,26 @@ fn sort_found(
 
 // Sorts the groups in turn, under what the module walk has left of the allowance. The rows are kept apart from the reply until all are sorted.
 fn sort_items(
-    project: &[u8],
-    l: Layout,
+    project: AcceptedProject<'_>,
     groups: &[u8],
     count: usize,
     module_visits: u32,
     reply: &mut [u8],
     allowance: u32,
 ) -> Numbers
-    requires { (s : ModuleState) × Found project.now l groups.now count module_visits reply.old allowance s }
+    requires { (s : ModuleState) × Found project.bytes.now groups.now count module_visits reply.old allowance s }
     ensures { (s : ModuleState)
-        → Found project.now l groups.now count module_visits reply.old allowance s
+        → Found project.entry.bytes.now groups.now count module_visits reply.old allowance s
         → Answered
-        (order_answer (project_of project.now) (length (groups_of s)) module_visits
-        (order_groups (project_of project.now) item_list_limit (allowance - module_visits) [] (groups_in_order s) [] 0))
+        (order_answer (project_of project.entry.bytes.now) (length (groups_of s)) module_visits
+        (order_groups (project_of project.entry.bytes.now) item_list_limit (allowance - module_visits) [] (groups_in_order s) [] 0))
         reply.old reply.new result }
 {
     let mut rows = [0u8; Layout::ITEM_ROOM];
     let sorted = sort_groups(
-        &project[Layout::START..l.items_end],
-        &project[l.items_end..l.imports_end],
-        &project[l.circles_end..],
+        project.items(),
+        project.imports(),
+        project.needs(),
         groups,
         count,
         &mut rows,

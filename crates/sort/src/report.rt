@@ -5,13 +5,10 @@ ghost use Rattle.rules.specs.Calls.{Answer, overwrite, bytes32, report_bytes, re
 ghost use Rattle.sort.specs.Answers.{numbers_of, Answered};
 ghost use Rattle.sort.specs.Entries.{entry_of};
 
-use super::Numbers;
+use super::{Numbers, Refusal};
 
 // The bytes of a report.
 const SIZE: usize = 20;
-
-// What an entry returns where its report is short.
-const SHORT: u32 = 13;
 
 // A call that an entry makes.
 pub trait Call {
@@ -28,7 +25,7 @@ pub fn enter<C: Call>(project: &[u8], reply: &mut [u8], report: &mut [u8], allow
         ≡ reported (C.answer project.now (length reply.old) allowance) reply.old report.old }
 {
     if report.len() < SIZE {
-        return SHORT;
+        return Refusal::ShortReport.into();
     }
     let numbers = C::make(project, reply, allowance);
     numbers.write(report);
@@ -36,7 +33,7 @@ pub fn enter<C: Call>(project: &[u8], reply: &mut [u8], report: &mut [u8], allow
 }
 
 impl Numbers {
-    // Writes the five numbers to the front of a report. One line for each: of what a loop over `chunks_exact_mut` writes nothing would be known.
+    // Writes the five numbers to the front of a report, one line for each: a loop over them would be no shorter.
     fn write(self, report: &mut [u8])
         requires { 20 ≤ length report.old }
         ensures { (a : Answer) → self ≡ numbers_of a → report.new ≡ overwrite (report_bytes a) report.old }

@@ -16,7 +16,7 @@ use Rattle.laws.specs.Counting.{keep_all}
 use Rattle.laws.proofs.Splits.{runs, length-kinds, kind_of-row, uninjected-∈, injected-∈, well_formed}
 use Rattle.laws.specs.Splits.{size, Giving}
 use Rattle.split.specs.declared.Split.{Split}
-use Rattle.split.specs.Splits.{Splittable, Splits}
+use Rattle.split.specs.Splits.{Splits}
 use Rattle.split.specs.SplitLaws.{numbering-parts}
 use Rattle.split.specs.FirstLists.{starts_on, Listable}
 
@@ -74,9 +74,9 @@ starts-numbers {p} {modules} g i h =
     let r = Memᴰ.of_map (λ (r : Range). r.start) (group_of p modules).ranges (get_or-∈ (starts_of (group_of p modules)) i 0 h) in
     subst (λ (x : ℕ). x < size (group_of p modules)) r.2 ((well_formed p modules g).starts-below r.0 r.1)
 
--- What the split leaves is what the first list asks for.
-pub listable : {p : Project} {modules : List ℕ} {s : Split} → Splittable p modules → Splits p modules s → Listable (group_of p modules) s
-listable {p} {modules} {s} a d =
+-- What the split of modules that give items leaves is what the first list asks for.
+pub listable : {p : Project} {modules : List ℕ} {s : Split} → Giving p modules → Splits p modules s → Listable (group_of p modules) s
+listable {p} {modules} {s} gives d =
     record {
       ranges-shown = d.ranges-shown;
       starts-shown = d.starts-shown;
@@ -84,7 +84,7 @@ listable {p} {modules} {s} a d =
           λ i h.
           let l : length (starts_on s) ≡ s.modules = length-take-le s.modules s.starts (omega (arith, s.sizes, s.counts)) in
           let k : i < length (starts_of (group_of p modules)) = omega (arith, ap length d.starts-shown) in
-          subst (λ (x : ℕ). x < size (group_of p modules)) (ap (λ (l : List ℕ). get_or l i 0) (sym d.starts-shown) ∙ get_or-take s.modules s.starts i 0 h) (starts-numbers a.giving i k);
+          subst (λ (x : ℕ). x < size (group_of p modules)) (ap (λ (l : List ℕ). get_or l i 0) (sym d.starts-shown) ∙ get_or-take s.modules s.starts i 0 h) (starts-numbers gives i k);
       injected-behind =
           injected-numbers p modules
           ∙ sym (ap (λ (u : ℕ). up_from u (length (numbering p modules) - u)) d.uninjected-is)

@@ -4,13 +4,13 @@ use Rattle.std.specs.Prelude.{◌≡◌, refl, Bool, true, false, not, ◌&&◌,
 use Rattle.std.proofs.Common.{arith, sym, ap, subst, ◌∙◌}
 use Rattle.std.proofs.Math.Bool.{beq}
 use Rattle.rules.specs.Lists.{cons_if, keep, positions_from}
-use Rattle.rules.specs.Project.{Item, Project, item_row, pair_rows}
+use Rattle.rules.specs.Project.{Item, Project, module_limit, item_row, pair_rows}
 use Rattle.rules.specs.Items.{is_kept, is_injected, no_item, item_at, kind_at, kept_rows, kept_rows_of, uninjected_rows, injected_rows}
 use Rattle.laws.specs.Counting.{Below}
 use Rattle.laws.specs.Orders.{positions-∈}
 use Rattle.project.specs.RowLaws.{pairs-length}
 use Rattle.split.specs.declared.rows.ItemRows.{ItemRows}
-use Rattle.split.specs.Rows.{module_rows, RowsShown, kept_as, rows_as}
+use Rattle.split.specs.Rows.{module_rows, RowsShown, RowsOf, RowsAmong, kept_as, rows_as}
 
 -- Positions: of entries that pass equal tests, and of those that pass two.
 keep-cons_if : (test : ℕ → Bool) (b : Bool) (n : ℕ) (l : List ℕ) → keep test (cons_if b n l) ≡ cons_if (b && test n) n (keep test l)
@@ -101,13 +101,17 @@ unfolding kept_as
 kept-asked true kind = rw (beq-true (is_injected kind))
 kept-asked false kind = rw (beq-false (is_injected kind))
 
+-- Where the rows of all modules are shown, those of each are.
+pub rows-among : {p : Project} {items : ItemRows} {modules : List ℕ} → RowsShown p items → Below module_limit modules → RowsAmong p modules items
+rows-among shown below m k = record { section = shown.section; most = shown.most; along = shown.along m (below m k) }
+
 -- The rows of a module, read from the items section.
-module _ {p : Project} {items : ItemRows} (shown : RowsShown p items) where
+module _ {p : Project} {m : ℕ} {items : ItemRows} (shown : RowsOf p m items) where
   pub row-count : length p.items ≡ length items.section.now / 2
   row-count = ap length shown.section ∙ pairs-length item_row items.section.now
 
-  pub rows-below : (m : ℕ) → Below (length p.items) (module_rows p m)
-  rows-below m x h = let r = positions-∈ (λ (i : Item). eqb i.in_module m) no_item 0 p.items h in omega (arith, r.1, r.2)
+  pub rows-below : Below (length p.items) (module_rows p m)
+  rows-below x h = let r = positions-∈ (λ (i : Item). eqb i.in_module m) no_item 0 p.items h in omega (arith, r.1, r.2)
 
   pub kind-read : (row : ℕ) → row < length p.items → kind_at p row ≡ get_or items.section.now (2 * row + 1) 0
   unfolding kind_at item_at

@@ -4,6 +4,7 @@ use mathlib.Core.List.{flat_map}
 use Rattle.rules.specs.Lists.{positions_from}
 use Rattle.rules.specs.Project.{Item, Project, module_limit, item_limit, item_row, pair_rows}
 use Rattle.rules.specs.Items.{is_kept, is_injected, uninjected_rows, injected_rows}
+use Rattle.laws.specs.Lists.{◌∈◌}
 use Rattle.lists.specs.Chained.{places}
 use Rattle.split.specs.declared.rows.ItemRows.{ItemRows}
 
@@ -16,6 +17,16 @@ pub record RowsShown (p : Project) (items : ItemRows) : Type 0 where
   pub section : p.items ≡ pair_rows item_row items.section.now
   pub most : length p.items ≤ item_limit
   pub along : (m : ℕ) → m < module_limit → places items.chains.next (get_or items.chains.heads m 0) ≡ module_rows p m
+
+-- The section is that of the project's items, and the rows of module m stand along its chain.
+pub record RowsOf (p : Project) (m : ℕ) (items : ItemRows) : Type 0 where
+  pub section : p.items ≡ pair_rows item_row items.section.now
+  pub most : length p.items ≤ item_limit
+  pub along : places items.chains.next (get_or items.chains.heads m 0) ≡ module_rows p m
+
+-- The same of each of some modules.
+abbrev pub RowsAmong : Project → List ℕ → ItemRows → Type 0
+RowsAmong p modules items = (m : ℕ) → m ∈ modules → RowsOf p m items
 
 -- whether a kind is kept, and injected or not as asked
 unfoldable pub kept_as : Bool → ℕ → Bool

@@ -16,7 +16,7 @@ use Rattle.split.specs.declared.Split.{Split}
 use Rattle.split.specs.Rows.{rows_as}
 use Rattle.split.specs.Splits.{starts_in, RangesNumbered, InjectedNumbered, Splittable, Splits, no_ranges, SplitStored}
 use Rattle.split.specs.StoreLaws.{sets-take, sets-get_or, stored-behind}
-use Rattle.split.specs.SplitLaws.{modules-most, numbering-most, numbering-parts, numbered-parts}
+use Rattle.split.specs.SplitLaws.{numbering-parts, numbered-parts}
 
 -- The range of a number: the first where that holds it, else one of the others; none from the end of the runs on.
 range_of-first : (r : Range) (ranges : List Range) (y : ℕ) → r.start ≤ y → y < r.start + r.count → range_of (r ∷ ranges) y ≡ r
@@ -151,7 +151,7 @@ module _ {p : Project} {modules : List ℕ} {s t u : Split} (first : RangesNumbe
   split-shown a =
       let d : SplitStored p modules s u = split-stored in
       let n : ℕ = length (numbering p modules) in
-      let most : n ≤ item_limit = numbering-most a in
+      let most : n ≤ item_limit = a.numbering-most in
       let count : u.count ≡ n = omega (arith, second.numbered.rows_stored.count, first.rows_stored.count, numbered-parts p modules) in
       let kinds : List ℕ = map (kind_at p) (numbering p modules) in
       let size : length kinds ≡ n = length-map (numbering p modules) (kind_at p) in
@@ -187,5 +187,5 @@ module _ {p : Project} {modules : List ℕ} {s t u : Split} (first : RangesNumbe
             };
         starts-shown =
             ap (λ (k : ℕ). take k u.starts) (known ∙ sym many) ∙ ap (take (length starts)) d.starts-whole
-            ∙ sets-take starts s.starts (omega (arith, modules-most a, s.sizes));
+            ∙ sets-take starts s.starts (omega (arith, a.modules-most, s.sizes));
       }

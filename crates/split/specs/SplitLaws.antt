@@ -10,12 +10,14 @@ use Rattle.rules.specs.Lists.{cons_if, keep}
 use Rattle.rules.specs.Project.{Project, module_limit, item_limit}
 use Rattle.rules.specs.Items.{kind_at, uninjected_rows, injected_rows, numbering, Range, ranges_from}
 use Rattle.laws.specs.Lists.{∈-self}
+use Rattle.laws.specs.Accepted.{Accepted}
+use Rattle.laws.specs.Splits.{Giving}
 use Rattle.laws.specs.Counting.{Below, below_length}
 use Rattle.laws.proofs.Splits.{runs, length-numbering, giving-below}
 use Rattle.laws.proofs.FirstList.{length-ranges}
 use Rattle.split.specs.declared.Split.{Split}
 use Rattle.split.specs.declared.rows.ItemRows.{ItemRows}
-use Rattle.split.specs.Rows.{module_rows, RowsShown, kept_as, rows_as, numbered_as}
+use Rattle.split.specs.Rows.{module_rows, RowsOf, kept_as, rows_as, numbered_as}
 use Rattle.split.specs.Stored.{Stored}
 use Rattle.split.specs.StoreLaws.{Storing, storing-start, storing-as, storing-room, storing-one, storing-more, storing-end}
 use Rattle.split.specs.RowLaws.{rows-kept, rows-below}
@@ -32,11 +34,11 @@ pub record NumberingRows (p : Project) (m : ℕ) (injected : Bool) (left : List 
   pub kinds-so : Storing (map (kind_at p) (rows_as injected p m)) s.count s.kinds (map (kind_at p) (kept_among injected p left)) kinds n
 
 module _ (p : Project) (m : ℕ) (injected : Bool) where
-  pub numbering-start : (items : ItemRows) → RowsShown p items → (s : Split) → NumberingRows p m injected (module_rows p m) s s.rows s.kinds s.count
+  pub numbering-start : (items : ItemRows) → RowsOf p m items → (s : Split) → NumberingRows p m injected (module_rows p m) s s.rows s.kinds s.count
   numbering-start items shown s =
       let e = rows-kept p m injected refl in
       record {
-        within = rows-below shown m;
+        within = rows-below shown;
         rows_so = rw e (storing-start (rows_as injected p m) s.count s.rows);
         kinds-so = rw e (storing-start (map (kind_at p) (rows_as injected p m)) s.count s.kinds);
       }
@@ -88,16 +90,15 @@ module _ (p : Project) (m : ℕ) (injected : Bool) where
     pub numbering-kinds : Stored (map (kind_at p) (rows_as injected p m)) s.count s.kinds kinds n
     numbering-kinds = storing-end a.kinds-so (ap (map (kind_at p)) kept_none)
 
--- What the modules asked for are: numbers of modules, no more than there are, whose rows fit.
-module _ {p : Project} {modules : List ℕ} (a : Splittable p modules) where
-  pub modules-below : Below module_limit modules
-  modules-below = giving-below (λ i m. omega (arith, (a.accepted.item-rows i m).module-below, a.accepted.modules-most)) a.giving
-
-  pub modules-most : length modules ≤ module_limit
-  modules-most = below_length a.giving.once modules-below
-
-  pub numbering-most : length (numbering p modules) ≤ item_limit
-  numbering-most = omega (arith, length-numbering p a.giving.once, a.accepted.items-most)
+-- Modules of an accepted project that give items can be split.
+pub splittable : {p : Project} {modules : List ℕ} → Accepted p → Giving p modules → Splittable p modules
+splittable {p} {modules} a g =
+    let below : Below module_limit modules = giving-below (λ i m. omega (arith, (a.item-rows i m).module-below, a.modules-most)) g in
+    record {
+      modules-below = below;
+      modules-most = below_length g.once below;
+      numbering-most = omega (arith, length-numbering p g.once, a.items-most);
+    }
 
 -- The numbering is the runs, and the injected rows behind them.
 pub numbering-parts : (p : Project) (modules : List ℕ) → length (numbering p modules) ≡ length (runs p modules) + length (flat_map (injected_rows p) modules)

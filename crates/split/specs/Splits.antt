@@ -1,11 +1,10 @@
 -- What the methods of `Split` require and guarantee: how its arrays stand for the numbering of a group's items. Assumes nothing.
-use Rattle.std.specs.Prelude.{ℕ, ◌+◌, ◌-◌, ◌≡◌, true, false, length, take, set, replicate}
+use Rattle.std.specs.Prelude.{ℕ, ◌+◌, ◌-◌, ◌≤◌, ◌≡◌, true, false, length, take, set, replicate}
 use mathlib.Core.List.{List, ◌++◌, map, flat_map}
 use Rattle.std.proofs.lemmas.List.Edits.{sets}
-use Rattle.rules.specs.Project.{Project}
+use Rattle.rules.specs.Project.{Project, module_limit, item_limit}
 use Rattle.rules.specs.Items.{kind_at, uninjected_rows, injected_rows, numbering, Range, ranges_from, group_of, starts as starts_of}
-use Rattle.laws.specs.Accepted.{Accepted}
-use Rattle.laws.specs.Splits.{Giving}
+use Rattle.laws.specs.Counting.{Below}
 use Rattle.split.specs.Shown.{Kinds, Ranges}
 use Rattle.split.specs.Rows.{numbered_as}
 use Rattle.split.specs.Stored.{Stored}
@@ -66,10 +65,11 @@ pub record InjectedNumbered (p : Project) (modules : List ℕ) (s t : Split) : T
   pub modules-same : t.modules ≡ s.modules
   pub uninjected : t.uninjected ≡ s.uninjected
 
--- What a split asks for: modules of an accepted project that give items.
+-- What a split asks for: numbers of modules, no more than there are, whose rows fit.
 pub record Splittable (p : Project) (modules : List ℕ) : Type 0 where
-  pub accepted : Accepted p
-  pub giving : Giving p modules
+  pub modules-below : Below module_limit modules
+  pub modules-most : length modules ≤ module_limit
+  pub numbering-most : length (numbering p modules) ≤ item_limit
 
 -- The arrays show the split of the group's items.
 pub record Splits (p : Project) (modules : List ℕ) (s : Split) : Type 0 where

@@ -21,17 +21,16 @@ fn is_kept_as(kind: KindByte, injected: bool) -> bool
     kind.is_kept() & (kind.is_injected() == injected)
 }
 
-// Puts the numbers from `low` on and below `high` in front of a list, the lowest foremost; the list's end then.
+// Puts the numbers from `low` on and below `high` in front of a list, the lowest foremost; the list's end then. (One function over an iterator would need
+// clauses on what it yields.)
 fn push_numbers(low: usize, high: usize, list: &mut [u16], end: usize) -> usize
     requires { (high ≤ 65536) × (end + (high - low) ≤ length list.old) }
     ensures { Pushed (up_from low (high - low)) list.old end list.new result }
 {
-    let mut n = end;
-    for x in (low..high).rev() {
-        list[n] = x as u16;
-        n += 1;
+    for (i, x) in (low..high).rev().enumerate() {
+        list[end + i] = x as u16;
     }
-    n
+    end + high.saturating_sub(low)
 }
 
 // Puts entries in front of a list, the first foremost; the list's end then.
@@ -39,15 +38,13 @@ pub fn push_entries(entries: &[u16], list: &mut [u16], end: usize) -> usize
     requires { end + length entries.now ≤ length list.old }
     ensures { Pushed entries.now list.old end list.new result }
 {
-    let mut n = end;
-    for &x in entries.iter().rev() {
-        list[n] = x;
-        n += 1;
+    for (i, &x) in entries.iter().rev().enumerate() {
+        list[end + i] = x;
     }
-    n
+    end + entries.len()
 }
 
-// The split on arrays. Of each number below `count` there are the row, the kind and the range of its module, from `low` to `high` without `high`. The
+// The split on arrays, each read by place. Of each number below `count` there are the row, the kind and the range of its module, from `low` to `high` without `high`. The
 // injected numbers, those from `uninjected` on, have no range. Of each module there is the start of its range.
 #[derive(Drop)]
 pub struct Split {
@@ -68,7 +65,7 @@ impl Split {
     ghost use Rattle.rules.specs.Items.{Group, first_list};
     ghost use Rattle.rules.specs.Calls.{item_list_limit};
     ghost use Rattle.lists.specs.Arrays.{Zeros};
-    ghost use Rattle.split.specs.Rows.{RowsShown, rows_as, numbered_as};
+    ghost use Rattle.split.specs.Rows.{RowsOf, RowsAmong, rows_as, numbered_as};
     ghost use Rattle.split.specs.Splits.{Numbered, SameRanges, SameNumbers, RangeNoted, RangesNumbered, InjectedNumbered, Splittable, Splits, SplitStored};
     ghost use Rattle.split.specs.FirstLists.{held_by, starts_on, Listable, FirstListed};
 
@@ -90,10 +87,10 @@ impl Split {
         }
     }
 
-    // Numbers the kept rows of a module that are injected, or those that are not.
+    // Numbers the kept rows of a module that are injected, or those that are not. The count is stepped by hand, since not each row is one of them.
     fn number_rows(&mut self, items: &ItemRows, m: ModuleId, injected: bool)
-        requires { (p : Project) × RowsShown p items.now × (m.0 < module_limit) × (self.old.count + length (rows_as injected p m.0) ≤ item_limit) }
-        ensures numbered { (p : Project) → RowsShown p items.now → Numbered p (rows_as injected p m.0) self.old self.new }
+        requires { (p : Project) × RowsOf p m.0 items.now × (m.0 < module_limit) × (self.old.count + length (rows_as injected p m.0) ≤ item_limit) }
+        ensures numbered { (p : Project) → RowsOf p m.0 items.now → Numbered p (rows_as injected p m.0) self.old self.new }
         ensures ranges { SameRanges self.old self.new }
     {
         let mut n = self.count;
@@ -124,8 +121,8 @@ impl Split {
 
     // Numbers the uninjected rows of each module from 0 on, and notes its range.
     fn number_uninjected(&mut self, items: &ItemRows, modules: &[u8])
-        requires { (p : Project) × RowsShown p items.now × Splittable p modules.now }
-        ensures { (p : Project) → RowsShown p items.now → Splittable p modules.now → RangesNumbered p modules.now self.old self.new }
+        requires { (p : Project) × RowsAmong p modules.now items.now × Splittable p modules.now }
+        ensures { (p : Project) → RowsAmong p modules.now items.now → Splittable p modules.now → RangesNumbered p modules.now self.old self.new }
     {
         self.uninjected = 0;
         self.count = 0;
@@ -140,9 +137,9 @@ impl Split {
 
     // Numbers the injected rows of each module behind them. These have no range.
     fn number_injected(&mut self, items: &ItemRows, modules: &[u8])
-        requires { (p : Project) × RowsShown p items.now × Splittable p modules.now
+        requires { (p : Project) × RowsAmong p modules.now items.now × Splittable p modules.now
             × (self.old.count + length (numbered_as true p modules.now) ≤ item_limit) }
-        ensures { (p : Project) → RowsShown p items.now → Splittable p modules.now → InjectedNumbered p modules.now self.old self.new }
+        ensures { (p : Project) → RowsAmong p modules.now items.now → Splittable p modules.now → InjectedNumbered p modules.now self.old self.new }
     {
         let first = self.count;
         for &m in modules {
@@ -155,8 +152,8 @@ impl Split {
 
     // Splits the kept items of modules.
     pub fn split_items(&mut self, items: &ItemRows, modules: &[u8])
-        requires { (p : Project) × RowsShown p items.now × Splittable p modules.now }
-        ensures { (p : Project) → RowsShown p items.now → Splittable p modules.now
+        requires { (p : Project) × RowsAmong p modules.now items.now × Splittable p modules.now }
+        ensures { (p : Project) → RowsAmong p modules.now items.now → Splittable p modules.now
             → Splits p modules.now self.new × SplitStored p modules.now self.old self.new }
     {
         self.number_uninjected(items, modules);
@@ -177,8 +174,8 @@ impl Split {
     {
         let mut n = self.modules + (self.count - self.uninjected);
         for &start in self.starts() {
-            let x = start as usize;
-            n += (self.high[x] - self.low[x]) as usize;
+            let x = usize::from(start);
+            n += usize::from(self.high[x] - self.low[x]);
         }
         n
     }
@@ -191,8 +188,8 @@ impl Split {
     {
         let mut n = end;
         for &start in self.starts().iter().rev() {
-            let x = start as usize;
-            n = push_numbers(self.low[x] as usize, self.high[x] as usize, list, n);
+            let x = usize::from(start);
+            n = push_numbers(usize::from(self.low[x]), usize::from(self.high[x]), list, n);
         }
         n
     }

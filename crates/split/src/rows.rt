@@ -23,7 +23,7 @@ impl<'a> ItemRows<'a> {
     {
         let mut chains = Chains::new();
         for row in (0..section.len() / ItemRow::BYTES).rev() {
-            chains.put_first(ItemRow::nth(section, row).in_module.0 as usize, row);
+            chains.put_first(usize::from(ItemRow::nth(section, row).in_module), row);
         }
         ItemRows { section, chains }
     }
@@ -34,6 +34,6 @@ impl<'a> ItemRows<'a> {
         ensures next { result.next.now ≡ self.now.chains.next }
         ensures entry { result.entry ≡ get_or self.now.chains.heads m.0 0 }
     {
-        self.chains.chain(m.0 as usize)
+        self.chains.chain(usize::from(m))
     }
 }

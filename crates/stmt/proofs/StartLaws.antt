@@ -8,14 +8,13 @@ use Rattle.rules.specs.Lists.{any, elem}
 use Rattle.rules.specs.Project.{item_limit}
 use Rattle.rules.specs.Items.{Group, has_moved, item_list, placed_of, item_start}
 use Rattle.laws.specs.Splits.{size}
-use Rattle.laws.proofs.ItemWalk.{walked_start}
 use Rattle.lists.specs.Bits.{bit_at}
 use Rattle.lists.specs.BitLaws.{bit-none, cell_below}
 use Rattle.lists.specs.Stacks.{stack}
 use Rattle.split.specs.FirstLists.{FirstListed}
 use Rattle.layout.specs.declared.Group.{Group as GroupArrays}
 use Rattle.stmt.specs.declared.arrays.Arrays.{Arrays}
-use Rattle.stmt.specs.Walks.{moved_of, Laid, width, Walking, Startable}
+use Rattle.stmt.specs.Walks.{moved_of, width, Shows, Startable}
 
 -- A row of words whose first n were cleared holds none of their bits.
 cleared-bit : (n : ℕ) {words : List ℕ} (rest : List ℕ) → words ≡ replicate n 0 → (k : ℕ) → k < n * 64 → bit_at (words ++ rest) k ≡ false
@@ -30,41 +29,32 @@ abbrev pair_words : {WORDS NEEDS : ℕ} → GroupArrays WORDS NEEDS → ℕ
 pair_words group = group.split.count * group.graph.words
 
 module _ {WORDS NEEDS : ℕ} {g : Group} {group : GroupArrays WORDS NEEDS} where
-  -- as many as the graph has in its rows
-  words-graph : Laid g group → pair_words group ≡ group.graph.nodes * group.graph.words
-  words-graph h = ap (λ (n : ℕ). n * group.graph.words) (h.count-is ∙ sym h.nodes-is)
-
   pub started : {ENTRIES : ℕ} (a : Arrays WORDS ENTRIES) → Startable g group ENTRIES → (a' : Arrays WORDS ENTRIES) {placed moved : List ℕ} {end : ℕ}
       → a'.placed ≡ placed → placed ≡ replicate (length a.placed) 0 → a'.moved ≡ moved ++ drop (pair_words group) a.moved
-      → moved ≡ replicate (length (take (pair_words group) a.moved)) 0 → FirstListed g a.list a'.list end → Walking g group a' (record { end = end; placed = 0 }) (item_start g)
+      → moved ≡ replicate (length (take (pair_words group) a.moved)) 0 → FirstListed g a.list a'.list end → Shows (size g) (width group) a' (record { end = end; placed = 0 }) (item_start g)
   unfolding item_start item_list placed_of moved_of has_moved elem any stack
   started a h a' {placed} {moved} p placed-none m moved-none l =
-      let most : size g ≤ item_limit = omega (arith, h.laid.count-is, group.split.counts) in
-      let within : size g ≤ width group = omega (arith, group.graph.fits, h.laid.nodes-is) in
-      let count : size g * group.graph.words ≡ pair_words group = ap (λ (n : ℕ). n * group.graph.words) (sym h.laid.count-is) in
+      let most : size g ≤ item_limit = omega (arith, h.count-is, group.split.counts) in
+      let count : size g * group.graph.words ≡ pair_words group = ap (λ (n : ℕ). n * group.graph.words) (sym h.count-is) in
       let taken : length (take (pair_words group) a.moved) ≡ pair_words group =
-      omega (arith, length-take (pair_words group) a.moved, words-graph h.laid, group.graph.fits, a.moved_size) in
+      omega (arith, length-take (pair_words group) a.moved, count, h.rows-room, a.moved_size) in
       record {
-        laid = h.laid;
-        shows = record {
-          most = most;
-          entries = record { shown = l.shown; within = omega (arith, l.count, h.first-most); held = omega (arith, l.count, h.room, a'.list_size) };
-          items = record {
-            bits =
-                λ x k.
-                ap (λ (l : List ℕ). bit_at l x) (p ∙ sym (append-nil placed))
-                ∙ cleared-bit (length a.placed) [] placed-none x (omega (arith, most, a.placed_size));
-            shown = refl;
-          };
-          pairs = record {
-            within = within;
-            most = omega (arith, group.graph.fits);
-            size = omega (arith, count, words-graph h.laid, group.graph.fits, a'.moved_size);
-            bits =
-                λ x d f k.
-                let below = cell_below (width group) (size g) x d f (omega arith) in
-                rw m (cleared-bit (length (take (pair_words group) a.moved)) (drop (pair_words group) a.moved) moved-none (x * width group + d) (omega (arith, taken, count)));
-          };
+        most = most;
+        entries = record { shown = l.shown; within = omega (arith, l.count, h.first-most); held = omega (arith, l.count, h.room, a'.list_size) };
+        items = record {
+          bits =
+              λ x k.
+              ap (λ (l : List ℕ). bit_at l x) (p ∙ sym (append-nil placed))
+              ∙ cleared-bit (length a.placed) [] placed-none x (omega (arith, most, a.placed_size));
+          shown = refl;
         };
-        walked = walked_start g h.laid.formed;
+        pairs = record {
+          within = h.within;
+          most = omega (arith, group.graph.fits);
+          size = omega (arith, h.rows-room, a'.moved_size);
+          bits =
+              λ x d f k.
+              let below = cell_below (width group) (size g) x d f (omega (arith, h.within)) in
+              rw m (cleared-bit (length (take (pair_words group) a.moved)) (drop (pair_words group) a.moved) moved-none (x * width group + d) (omega (arith, taken, count)));
+        };
       }

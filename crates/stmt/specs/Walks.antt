@@ -76,10 +76,12 @@ pub record Walking {WORDS NEEDS ENTRIES : ℕ} (g : Group) (group : GroupArrays 
   pub shows : Shows (size g) (width group) a w s
   pub walked : Walked g s
 
--- What making the first state asks for.
+-- What making the first state asks for: the group's first list and room for it, and rows of bits for its items.
 pub record Startable {WORDS NEEDS : ℕ} (g : Group) (group : GroupArrays WORDS NEEDS) (entries : ℕ) : Type 0 where
-  pub laid : Laid g group
   pub listable : Listable g group.split
+  pub count-is : group.split.count ≡ size g
+  pub within : size g ≤ width group
+  pub rows-room : size g * group.graph.words ≤ WORDS
   pub first-most : length (first_list g) ≤ item_list_limit
   pub room : length (first_list g) ≤ entries
 

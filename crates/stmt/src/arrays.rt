@@ -8,7 +8,8 @@ use graph::rows::ROW_WORDS;
 use lists::bits;
 use project::{Layout, NodeId};
 
-// The items placed, as bits and in their order; the pairs that have moved, as rows of bits; the dependencies that a visit finds open; and the list.
+// The items placed, as bits and in their order; the pairs that have moved, as rows of bits; the dependencies that a visit finds open; and the list. Their
+// ends are numbers of the walk's state, which a visit hands on by copy; so they are no `ArrayVec`.
 #[derive(Drop)]
 pub struct Arrays<const WORDS: usize, const ENTRIES: usize> {
     pub placed: [u64; ROW_WORDS],
@@ -28,7 +29,7 @@ fn pair_bit(words: usize, x: NodeId, d: NodeId) -> usize
     requires { words ≤ row_words }
     ensures { result ≡ x.0 * (64 * words) + d.0 }
 {
-    x.0 as usize * (64 * words) + d.0 as usize
+    usize::from(x) * (64 * words) + usize::from(d)
 }
 
 impl<const WORDS: usize, const ENTRIES: usize> Arrays<WORDS, ENTRIES> {
@@ -59,7 +60,7 @@ impl<const WORDS: usize, const ENTRIES: usize> Arrays<WORDS, ENTRIES> {
         requires { x.0 < item_limit }
         ensures { result ≡ bit_at self.now.placed x.0 }
     {
-        bits::row_has(&self.placed, x.0 as usize)
+        bits::row_has(&self.placed, usize::from(x))
     }
 
     // Places x; the numbers then.
@@ -70,7 +71,7 @@ impl<const WORDS: usize, const ENTRIES: usize> Arrays<WORDS, ENTRIES> {
         ensures order { self.new.order ≡ set self.old.order w.placed x.0 }
         ensures rest { (self.new.moved ≡ self.old.moved) × (self.new.«open» ≡ self.old.«open») × (self.new.list ≡ self.old.list) }
     {
-        bits::row_insert(&mut self.placed, x.0 as usize);
+        bits::row_insert(&mut self.placed, usize::from(x));
         self.order[w.placed] = x.0;
         ItemWalk {
             placed: w.placed + 1,

@@ -3,9 +3,11 @@ ghost use Rattle.std.specs.Prelude.{ℕ, ◌+◌, ◌*◌, ◌≤◌, ◌<◌, �
 ghost use Rattle.rules.specs.Lists.{elem};
 ghost use Rattle.rules.specs.Project.{item_limit};
 ghost use Rattle.rules.specs.Items.{is_injected, Group, ItemState, item_state, waiting, one_by_one, preceding as preceding_of, after_preceding, visit_item, item_list, placed_of};
+ghost use Rattle.rules.specs.Calls.{item_list_limit};
 ghost use Rattle.laws.specs.Splits.{size};
 ghost use Rattle.lists.specs.Bits.{bit_at};
-ghost use Rattle.stmt.specs.Walks.{moved_of, with_list, Shows, Laid, width, Walking, Fits, Room, Comes, ListOnly, MovedOnly, ItemIs, Ranged, Skipped, stays as stays_open, Found, Pushed, First};
+ghost use Rattle.walks.specs.Runs.{Came};
+ghost use Rattle.stmt.specs.Walks.{moved_of, with_list, Shows, Laid, width, Walking, Fits, Room, Comes, ListOnly, MovedOnly, ItemIs, Ranged, SameVisits, IsAt, Skipped, stays as stays_open, Found, Pushed, First};
 
 use crate::arrays::Arrays;
 use crate::walk::ItemWalk;
@@ -32,7 +34,7 @@ impl Item {
         ensures item { (g : Group) → Laid g group.now → id.0 < size g → ItemIs g result }
         ensures id { result.id ≡ id }
     {
-        let i = id.0 as usize;
+        let i = usize::from(id);
         let split = &group.split;
         Self {
             id,
@@ -92,7 +94,7 @@ impl<const WORDS: usize, const ENTRIES: usize> Arrays<WORDS, ENTRIES> {
         !x.kind.may_drop(group.graph.is_weak(x.id, d))
     }
 
-    // The dependencies of x that stay, in their order, written to `open`; how many. Notes pairs as moved.
+    // The dependencies of x that stay, in their order, written to `open`; how many. Notes pairs as moved. (No iterator: the test writes to `self`.)
     fn find_open<const NEEDS: usize>(
         &mut self,
         group: &layout::Group<WORDS, NEEDS>,
@@ -132,7 +134,7 @@ impl<const WORDS: usize, const ENTRIES: usize> Arrays<WORDS, ENTRIES> {
         requires { d.0 < item_limit }
         ensures { result ≡ (is_injected (get_or group.now.split.kinds d.0 0) && not (bit_at self.now.placed d.0)) }
     {
-        KindByte(group.split.kinds[d.0 as usize]).is_injected() && !self.has_placed(d)
+        KindByte(group.split.kinds[usize::from(d)]).is_injected() && !self.has_placed(d)
     }
 
     // Pushes the unplaced injected dependants of x one by one, where the list has room for them.
@@ -166,7 +168,7 @@ impl<const WORDS: usize, const ENTRIES: usize> Arrays<WORDS, ENTRIES> {
         ensures { (g : Group) (w : ItemWalk) (s : ItemState) → Shows (size g) (64 * words) self.now w s → Ranged g x
             → First x.id.0 (preceding_of g (placed_of s) (moved_of s) x.id.0) result }
     {
-        // No `find`: its closure would need a `requires` and an `ensures` of its own, which is no plainer.
+        // No `find`: its closure would need clauses of its own.
         for i in x.low..x.id.0 {
             let p = NodeId(i);
             if !self.has_placed(p) && !self.has_moved(words, x.id, p) {
@@ -263,5 +265,23 @@ impl<const WORDS: usize, const ENTRIES: usize> Arrays<WORDS, ENTRIES> {
             return self.place_injected(group, w, x.id);
         }
         self.visit_uninjected(group, w, x)
+    }
+
+    // A visit. Step 1: an item that is placed is passed over. What `open` holds afterwards is left free.
+    pub fn visit<const NEEDS: usize>(
+        &mut self,
+        group: &layout::Group<WORDS, NEEDS>,
+        w: ItemWalk,
+    ) -> Outcome<ItemWalk>
+        requires some { 0 < w.end }
+        requires walking { (g : Group) × (s : ItemState) × Walking g group.now self.old w s × Room (size g) ENTRIES w.end }
+        ensures { (g walked : Group) (s : ItemState) → SameVisits g walked → Walking g group.now self.old w s
+            → Came item_list_limit item_list placed_of (IsAt walked group.now self.new) (placed_of s) (visit_item walked s) result }
+    {
+        let x = NodeId(self.list[w.end - 1]);
+        if self.has_placed(x) {
+            return Outcome::WentOn(w.passed());
+        }
+        self.visit_unplaced(group, w, Item::of(group, x))
     }
 }

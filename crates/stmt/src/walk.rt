@@ -3,15 +3,14 @@ ghost use Rattle.std.specs.Prelude.{ℕ, ◌-◌, ◌≤◌, ◌<◌, ◌≡◌}
 ghost use Rattle.rules.specs.Items.{Group, ItemState, item_walk, item_start, placed_of};
 ghost use Rattle.rules.specs.Walk.{run as runs};
 ghost use Rattle.rules.specs.Calls.{item_list_limit};
+ghost use Rattle.laws.specs.Splits.{size};
 ghost use Rattle.lists.specs.Stacks.{stack};
 ghost use Rattle.walks.specs.Runs.{Ran};
-ghost use Rattle.stmt.specs.Walks.{Walking, Startable, SameVisits, Room, IsAt};
+ghost use Rattle.stmt.specs.Walks.{width, Shows, Walking, Startable, SameVisits, Room, IsAt};
 ghost use Rattle.stmt.specs.WalkLaws.{list-within};
 
 use crate::arrays::Arrays;
-use crate::steps::Item;
-use project::NodeId;
-use walks::{Outcome, Stop, Visits};
+use walks::{Allowance, Outcome, Stop, Visits};
 
 // The numbers of the walk's state: the end of the list and how many items are placed.
 #[derive(Clone, Copy)]
@@ -34,7 +33,7 @@ impl ItemWalk {
         arrays: &mut Arrays<WORDS, ENTRIES>,
     ) -> Self
         requires { (g : Group) × Startable g group.now ENTRIES }
-        ensures { (g : Group) → Startable g group.now ENTRIES → Walking g group.now arrays.new result (item_start g) }
+        ensures { (g : Group) → Startable g group.now ENTRIES → Shows (size g) (width group.now) arrays.new result (item_start g) }
     {
         arrays.placed.fill(0);
         arrays.moved[..group.split.count * group.graph.words].fill(0);
@@ -91,31 +90,25 @@ impl<const WORDS: usize, const NEEDS: usize, const ENTRIES: usize> Visits<Arrays
         Ok(())
     }
 
-    // Step 1: an item that is placed is passed over.
+    // There is an entry on the list: an item that is not placed stands there.
     fn visit(&self, arrays: &mut Arrays<WORDS, ENTRIES>, w: ItemWalk) -> Outcome<ItemWalk> {
-        let x = NodeId(arrays.list[w.end - 1]);
-        if arrays.has_placed(x) {
-            return Outcome::WentOn(w.passed());
-        }
-        arrays.visit_unplaced(self, w, Item::of(self, x))
+        arrays.visit(self, w)
     }
 
     ghost within = { λ x v a w s h. list-within h };
 }
 
-// Visits until all items are placed, the allowance is spent, the list may be too short for the next visit or is full; `already` visits have been made.
+// Visits until all items are placed, the allowance is spent, the list may be too short for the next visit or is full.
 pub fn run<const WORDS: usize, const NEEDS: usize, const ENTRIES: usize>(
     group: &layout::Group<WORDS, NEEDS>,
     arrays: &mut Arrays<WORDS, ENTRIES>,
     start: ItemWalk,
-    allowance: u32,
-    already: u32,
+    allowance: Allowance,
 ) -> Result<(ItemWalk, u32), Stop<Crowded>>
-    requires already_le_allowance { already ≤ allowance }
-    requires walking { (g : Group) × (s : ItemState) × Walking g group.now arrays.old start s }
+    requires { (g : Group) × (s : ItemState) × Walking g group.now arrays.old start s }
     ensures { (g walked : Group) (s : ItemState) → SameVisits g walked → Walking g group.now arrays.old start s
-        → Ran (runs (item_walk walked) item_list_limit (allowance - already) already s)
+        → Ran (runs (item_walk walked) item_list_limit (allowance.visits - allowance.made) allowance.made s)
         (λ w t. stack arrays.new.order group.now.split.count ≡ placed_of t) (λ c. ENTRIES < item_list_limit) result }
 {
-    walks::run(group, arrays, start, allowance, already)
+    walks::run(group, arrays, start, allowance)
 }

@@ -1,5 +1,6 @@
 -- What a visit and a run of visits come to, by the definition's visit and run. Assumes nothing.
 use Rattle.std.specs.Prelude.{ℕ, ◌-◌, ◌≡◌, ◌<◌, List, ◌∷◌, length, Result, Ok, Err}
+use Rattle.std.specs.declared.convert.Infallible.{Infallible}
 use Rattle.rules.specs.Walk.{Walk, Stop as Stopped, finished, spent, full, run}
 use Rattle.walks.specs.declared.Outcome.{Outcome}
 use Rattle.walks.specs.declared.Outcome.TheVariants.{WentOn, Placed, ListFull}
@@ -22,6 +23,12 @@ pub data Ran {Spec State C : Type 0} (stop : Stopped Spec) (shows : State → Sp
   was_spent : {n : ℕ} → stop ≡ spent n → Ran stop shows crowds (Err (Spent n))
   list_was_full : {n : ℕ} → stop ≡ full n → Ran stop shows crowds (Err (Full n))
   was_crowded : {c : C} → crowds c → Ran stop shows crowds (Err (Crowded c))
+
+-- What a stop says where the next visit may need a longer array; else the stop.
+unfoldable pub crowded_of : {C : Type 0} → Stop C → Result C (Stop Infallible)
+crowded_of (Spent made) = Err (Spent made)
+crowded_of (Full made) = Err (Full made)
+crowded_of (Crowded c) = Ok c
 
 -- Between two visits of a run: `first` is the state that the run began with, `already` the visits made before it.
 pub record Running {Spec State : Type 0} (walk : Walk Spec) (limit : ℕ) (shows : State → Spec → Type 0) (allowance already : ℕ) (first : Spec)

@@ -3,9 +3,11 @@
 
 ghost use Rattle.std.specs.Prelude.{ℕ, ◌-◌, ◌≤◌, ◌≡◌, true, false, List, length, MatchResult};
 ghost use Rattle.rules.specs.Walk.{Walk, run as runs};
-ghost use Rattle.walks.specs.Runs.{Came, Ran};
+ghost use Rattle.walks.specs.Runs.{Came, Ran, crowded_of};
 
-// What a visit came to, with the state after it.
+use std::convert::Infallible;
+
+// What a visit came to, with the state after it. A run takes the first two alike; as an Option it would not say which of them `visit` promises.
 #[derive(Clone, Copy)]
 pub enum Outcome<W> {
     WentOn(W),
@@ -21,14 +23,36 @@ pub enum Stop<C> {
     Crowded(C),
 }
 
-// The visits of a walk. `self` is what they read; the arrays are what they write, and with the numbers they are a state.
+impl<C> Stop<C> {
+    // What C says, where the next visit may need a longer array; else how the run stopped.
+    #[tactic(auto, unfolding(crate::specs::Runs::crowded_of))]
+    pub fn crowded(self) -> Result<C, Stop<Infallible>>
+        ensures { result ≡ crowded_of self }
+    {
+        match self {
+            Stop::Spent(made) => Err(Stop::Spent(made)),
+            Stop::Full(made) => Err(Stop::Full(made)),
+            Stop::Crowded(c) => Ok(c),
+        }
+    }
+}
+
+// How many visits a run may make, and how many have been made before.
+#[derive(Clone, Copy)]
+pub struct Allowance {
+    pub visits: u32,
+    pub made: u32,
+    pub ghost within: { made ≤ visits },
+}
+
+// The visits of a walk. `self` is what they read, the arrays are what they write; arrays and numbers together are a state.
 pub trait Visits<Arrays> {
     // The numbers of a state.
     type State: Copy;
     // What there is to say where the next visit may need a longer array.
     type Crowded: Copy;
 
-    // What is walked, and what no visit changes: where arrays are lent, their names.
+    // What is walked, which no visit changes.
     ghost Input: { Type 0 };
 
     // The states of the definition's walk.
@@ -74,24 +98,23 @@ pub trait Visits<Arrays> {
 }
 
 // Visits until the walk has ended, the allowance is spent, the next visit may need a longer array or the list is full, tested in this order; a visit
-// that fills the list counts. `already` visits have been made.
+// that fills the list counts.
 pub fn run<Arrays, V: Visits<Arrays>>(
     walk: &V,
     arrays: &mut Arrays,
     start: V::State,
-    allowance: u32,
-    already: u32,
+    allowance: Allowance,
 ) -> Result<(V::State, u32), Stop<V::Crowded>>
-    requires already_le_allowance { already ≤ allowance }
-    requires walking { (x : V.Input) × (s : V.SpecState) × V.IsAt x walk.now arrays.old start s }
+    requires { (x : V.Input) × (s : V.SpecState) × V.IsAt x walk.now arrays.old start s }
     ensures { (x : V.Input) (s : V.SpecState) → V.IsAt x walk.now arrays.old start s
-        → Ran (runs (V.walk x) V.limit (allowance - already) already s)
+        → Ran (runs (V.walk x) V.limit (allowance.visits - allowance.made) allowance.made s)
         (λ w t. V.IsAt x walk.now arrays.new w t × ((V.walk x).ended t ≡ true)) (V.Crowds x) result }
 {
     let mut w = start;
-    let mut made = already;
+    let mut made = allowance.made;
+    // No `for` over the visits: whether the walk has ended is asked once more than there are visits.
     while !walk.has_ended(arrays, w) {
-        if made == allowance {
+        if made == allowance.visits {
             return Err(Stop::Spent(made));
         }
         walk.has_room(arrays, w).map_err(Stop::Crowded)?;

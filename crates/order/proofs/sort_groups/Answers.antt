@@ -1,11 +1,11 @@
 -- `sort_groups` meets its contract: its parts in turn. Assumes nothing.
-use Rattle.std.proofs.Common.{ℕ, List}
+use Rattle.std.proofs.Common.{ℕ, List, refl}
 use Rattle.rules.specs.Project.{Project}
 use Rattle.order.specs.Turns.{Ready}
 use Rattle.order.specs.Orders.{Orderable}
 use Rattle.order.specs.LoopLaws.{turn_end, none-left}
 use Rattle.order.specs.ReadyLaws.{ready, notable, going}
-use Rattle.order.specs.OrderLaws.{turns-finished}
+use Rattle.walks.specs.RunLaws.{ran-finished}
 use Rattle.order.proofs.sort_groups.Goals as goal
 use Rattle.order.proofs.sort_groups.Goals.{After-givers}
 
@@ -25,7 +25,7 @@ returns-then-first-eq0 c =
     λ p gs o.
     let turns = all (goal.at.returns-then-first-eq0 c).After-givers o in
     let s = c.keep_groups-first.ensures p gs c.args.allowance turns o.bytes-are o.count-is o.out-size in
-    turns-finished {entries = 0} (turn_end (none-left s.place c.if-first-eq0.true))
+    ran-finished (turn_end {entries = 0} (none-left s.place c.if-first-eq0.true))
 
 pub sort_rest-requires : goal.sort_rest-requires
 sort_rest-requires c =
@@ -34,7 +34,7 @@ sort_rest-requires c =
     let o = c.requires.2 in
     let turns = all (goal.at.sort_rest-requires c).After-givers o in
     let kept = c.keep_groups-first in
-    (p, gs, c.args.out.now, going o turns (c.new-owners.ensures gs (notable o)) kept.auto.out (kept.ensures p gs c.args.allowance turns o.bytes-are o.count-is o.out-size))
+    (p, gs, c.args.out.now, going o turns refl (c.new-owners.ensures gs (notable o)) kept.auto.out (kept.ensures p gs c.args.allowance turns o.bytes-are o.count-is o.out-size))
 
 pub returns : goal.returns
 returns c =
@@ -42,4 +42,4 @@ returns c =
     let turns = all (goal.at.returns c).After-givers o in
     let kept = c.keep_groups-first in
     c.sort_rest.ensures p gs c.args.out.now
-    (going o turns (c.new-owners.ensures gs (notable o)) kept.auto.out (kept.ensures p gs c.args.allowance turns o.bytes-are o.count-is o.out-size))
+    (going o turns refl (c.new-owners.ensures gs (notable o)) kept.auto.out (kept.ensures p gs c.args.allowance turns o.bytes-are o.count-is o.out-size))

@@ -4,8 +4,8 @@ use Rattle.sort.proofs.find_groups.Goals as goal
 
 pub toposort_real_module_ids-requires : goal.toposort_real_module_ids-requires
 toposort_real_module_ids-requires c =
-    (project_of c.args.project.now, groupable c.args.project.now c.requires)
+    (project_of c.args.project.bytes.now, rw (c.imports.ensures, c.circles.ensures) (groupable c.args.project.bytes.now c.args.project.accepts))
 
 pub returns : goal.returns
 returns c =
-    c.toposort_real_module_ids.ensures _ (groupable c.args.project.now c.requires)
+    c.toposort_real_module_ids.ensures _ (rw (c.imports.ensures, c.circles.ensures) (groupable c.args.project.bytes.now c.args.project.accepts))

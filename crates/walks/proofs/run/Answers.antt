@@ -5,41 +5,41 @@ use Rattle.walks.proofs.run.Goals as goal
 
 pub returns-then-made-allowance : goal.returns-then-made-allowance
 returns-then-made-allowance g c x s h =
-    let r = c.loop-w.invariant.1 x s h in
-    spends r (c.has_ended.ensures x r.state r.shown ∙ c.loop-w-test.true) c.if-made-allowance.true
+    let r = c.loop-allowance.invariant.1 x s h in
+    spends r (c.has_ended.ensures x r.state r.shown ∙ c.loop-allowance-test.true) c.if-made-allowance.true
 
 pub returns-in_err-map_err : goal.returns-in_err-map_err
 returns-in_err-map_err g c x s h =
-    let r = c.loop-w.invariant.1 x s h in
+    let r = c.loop-allowance.invariant.1 x s h in
     let p = err_from_is_err_and c.from_residual.result c.from_residual.ensures.1 in
     rw (p.1, p.2)
     (crowds-on _ c.has_room.result c.map_err.result (c.has_room.ensures x r.state r.shown) c.map_err.ensures.cases c.in_err-map_err.was)
 
 pub returns-in_default : goal.returns-in_default
 returns-in_default g c x s h =
-    let r = c.loop-w.invariant.1 x s h in
-    let more = c.has_ended.ensures x r.state r.shown ∙ c.loop-w-test.true in
+    let r = c.loop-allowance.invariant.1 x s h in
+    let more = c.has_ended.ensures x r.state r.shown ∙ c.loop-allowance-test.true in
     fills r more (omega arith) (only-full (c.visit-outcome.ensures x r.state r.shown more) c.in_default.not-WentOn c.in_default.not-Placed)
 
-pub loop-w-preserved-in-WentOn : goal.loop-w-preserved-in-WentOn
-loop-w-preserved-in-WentOn g c = (
+pub loop-allowance-preserved-in-WentOn : goal.loop-allowance-preserved-in-WentOn
+loop-allowance-preserved-in-WentOn g c = (
   omega arith,
   λ x s h.
-      let r = c.loop-w.invariant.1 x s h in
-      let more = c.has_ended.ensures x r.state r.shown ∙ c.loop-w-test.true in
+      let r = c.loop-allowance.invariant.1 x s h in
+      let more = c.has_ended.ensures x r.state r.shown ∙ c.loop-allowance-test.true in
       turned r more (omega arith) (g.met.V.Visits.within x _ _ _) (c.visit-outcome.ensures x r.state r.shown more) c.in-WentOn.is,
 )
 
-pub loop-w-preserved : goal.loop-w-preserved
-loop-w-preserved g c = (
+pub loop-allowance-preserved : goal.loop-allowance-preserved
+loop-allowance-preserved g c = (
   omega arith,
   λ x s h.
-      let r = c.loop-w.invariant.1 x s h in
-      let more = c.has_ended.ensures x r.state r.shown ∙ c.loop-w-test.true in
+      let r = c.loop-allowance.invariant.1 x s h in
+      let more = c.has_ended.ensures x r.state r.shown ∙ c.loop-allowance-test.true in
       turned r more (omega arith) (g.met.V.Visits.within x _ _ _) (c.visit-outcome.ensures x r.state r.shown more) c.in-WentOn.is,
 )
 
 pub returns : goal.returns
 returns g c x s h =
-    let r = c.loop-w.invariant.1 x s h in
-    ends r (c.has_ended.ensures x r.state r.shown ∙ c.loop-w-test.false)
+    let r = c.loop-allowance.invariant.1 x s h in
+    ends r (c.has_ended.ensures x r.state r.shown ∙ c.loop-allowance-test.false)

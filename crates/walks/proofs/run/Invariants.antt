@@ -4,11 +4,11 @@ use Rattle.std.proofs.Common.{◌-◌, ◌≤◌}
 use Rattle.walks.specs.Runs.{Running}
 use Rattle.walks.proofs.run.Given as goal
 
-abbrev pub invariant-loop-w : goal.invariant-loop-w
-invariant-loop-w g l =
-    (l.made ≤ l.allowance)
+abbrev pub invariant-loop-allowance : goal.invariant-loop-allowance
+invariant-loop-allowance g l =
+    (l.made ≤ l.allowance.visits)
     × ((x : g.V.Visits.Input) (first : g.V.Visits.SpecState) → g.V.Visits.IsAt x l.walk l.initial.arrays l.initial.w first
-    → Running (g.V.Visits.walk x) g.V.Visits.limit (g.V.Visits.IsAt x l.walk l.arrays) l.allowance l.already first l.w l.made)
+    → Running (g.V.Visits.walk x) g.V.Visits.limit (g.V.Visits.IsAt x l.walk l.arrays) l.allowance.visits l.allowance.made first l.w l.made)
 
-abbrev pub decreases-loop-w : goal.decreases-loop-w
-decreases-loop-w g l = l.allowance - l.made
+abbrev pub decreases-loop-allowance : goal.decreases-loop-allowance
+decreases-loop-allowance g l = l.allowance.visits - l.made

@@ -1,6 +1,6 @@
 -- `chunk::walk::toposort_real_module_ids` meets its contract: the walk begins with the project's start, and its groups are those of the array. Assumes
 -- nothing.
-use Rattle.std.proofs.Common.{arith, refl}
+use Rattle.std.proofs.Common.{refl}
 use Rattle.std.proofs.Math.Nat.{sub-zero}
 use Rattle.rules.specs.Modules.{module_start, run_modules}
 use Rattle.walks.specs.RunLaws.{ran-as}
@@ -9,10 +9,7 @@ use Rattle.chunk.proofs.walk.toposort_real_module_ids.Goals as goal
 
 pub run-requires : goal.run-requires
 run-requires c =
-    record {
-      already_le_allowance = omega arith;
-      walking = (c.requires.0, module_start c.requires.0, walk-starts c.requires.1 _ refl c.lay_out.ensures c.new-start.ensures);
-    }
+    (c.requires.0, module_start c.requires.0, walk-starts c.requires.1 _ refl c.lay_out.ensures c.new-start.ensures)
 
 pub returns : goal.returns
 unfolding run_modules

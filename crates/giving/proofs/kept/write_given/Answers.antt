@@ -9,10 +9,11 @@ pub write_kept-n-requires : goal.write_kept-n-requires
 write_kept-n-requires c =
     let p = c.requires.0 in
     let modules = c.args.modules.now in
-    let i = c.loop-m.m-index in (
+    let i = c.loop-m.m-index in
+    let m = get_or-∈ modules i 0 c.loop-m-test.true in (
       p,
-      c.requires.1,
-      c.requires.2 _ (get_or-∈ modules i 0 c.loop-m-test.true),
+      c.requires.1 _ m,
+      c.requires.2 _ m,
       storing-room-more (c.loop-m.invariant p c.requires.1) (kept_rows_of p (get_or modules i 0)) (given_rows p (drop (i + 1) modules))
           (given-step p modules i c.loop-m-test.true) c.requires.3,
     )
@@ -23,7 +24,7 @@ loop-m-preserved c =
     let i = c.loop-m.m-index in
     λ p h.
     storing-more (c.loop-m.invariant p h) (kept_rows_of p (get_or modules i 0)) (given_rows p (drop (i + 1) modules)) (given-step p modules i c.loop-m-test.true)
-    (c.write_kept-n.ensures p h)
+    (c.write_kept-n.ensures p (h _ (get_or-∈ modules i 0 c.loop-m-test.true)))
 
 pub returns : goal.returns
 returns c = λ p h. storing-end (c.loop-m.invariant p h) (given-end p _ c.loop-m.m-index c.loop-m-test.false)

@@ -3,10 +3,10 @@
 use Rattle.std.proofs.Common.{drop}
 use Rattle.rules.specs.Project.{Project}
 use Rattle.rules.specs.Items.{given_rows}
-use Rattle.split.specs.Rows.{RowsShown}
+use Rattle.split.specs.Rows.{RowsAmong}
 use Rattle.split.specs.StoreLaws.{Storing}
 use Rattle.giving.proofs.kept.write_given.Given as goal
 
 abbrev pub invariant-loop-m : goal.invariant-loop-m
 invariant-loop-m l =
-    (p : Project) → RowsShown p l.items → Storing (given_rows p l.modules) l.start l.initial.out (given_rows p (drop l.m-index l.modules)) l.out l.n
+    (p : Project) → RowsAmong p l.modules l.items → Storing (given_rows p l.modules) l.start l.initial.out (given_rows p (drop l.m-index l.modules)) l.out l.n

@@ -11,8 +11,11 @@ unfolding dependencies_of dependants_of in_paths is_maybe weight_in different ap
 returns-clause-laid g c =
     let old = c.args.self.now in
     record {
-      dependencies = none-linked old.pairs.to old.outgoing c.clear.new.self c.clear.ensures.heads;
-      dependants = none-linked old.pairs.from old.incoming c.clear-2.new.self c.clear-2.ensures.heads;
+      neighbours =
+          record {
+            dependencies = none-linked old.pairs.to old.outgoing c.clear.new.self c.clear.ensures.heads;
+            dependants = none-linked old.pairs.from old.incoming c.clear-2.new.self c.clear-2.ensures.heads;
+          };
       paths-shown = rw c.clear_words-2.ensures (rows-cleared _ c.args.nodes old.paths);
       weak-shown = rw c.clear_words.ensures (rows-cleared _ c.args.nodes old.weak);
     }

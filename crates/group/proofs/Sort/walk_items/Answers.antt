@@ -3,6 +3,7 @@ use Rattle.std.proofs.Common.{arith, rules}
 use Rattle.rules.specs.Items.{Group, item_start}
 use Rattle.walks.specs.Runs.{was_crowded}
 use Rattle.stmt.specs.Walks.{Startable}
+use Rattle.stmt.specs.WalkLaws.{walking-start}
 use Rattle.group.specs.Walking.{Walkable}
 use Rattle.group.specs.WalkingLaws.{startable}
 use Rattle.group.proofs.Sort.walk_items.Given.{Over}
@@ -20,17 +21,17 @@ returns-then-first_len-clause-ran g c =
 
 pub new-start-requires : goal.new-start-requires
 new-start-requires g c =
-    let known = c.requires.walkable in
+    let known = c.requires in
     (search rules, (search rules, (known.0, starts g (goal.at.new-start-requires g c).Else-first_len known.2)))
 
 pub run-requires : goal.run-requires
 run-requires g c =
-    let known = c.requires.walkable in
+    let known = c.requires in
     let start = starts g (goal.at.run-requires g c).Else-first_len known.2 in
-    (search rules, (search rules, (omega arith, (known.0, item_start known.0, c.new-start.ensures known.0 start))))
+    (search rules, (search rules, (known.0, item_start known.0, walking-start known.2.laid (c.new-start.ensures known.0 start))))
 
 pub returns-clause-ran : goal.returns-clause-ran
 returns-clause-ran g c =
     λ h walked able.
     let start = starts g (goal.at.returns-clause-ran g c).Else-first_len able in
-    rw (← able.first) (c.run.ensures h walked _ able.same (c.new-start.ensures h start))
+    rw (← able.first) (c.run.ensures h walked _ able.same (walking-start able.laid (c.new-start.ensures h start)))

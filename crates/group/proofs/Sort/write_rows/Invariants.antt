@@ -4,9 +4,8 @@ use Rattle.std.proofs.lemmas.List.Edits.{sets}
 use Rattle.group.specs.Sorts.{rows_of}
 use Rattle.group.proofs.Sort.write_rows.Given as goal
 
-abbrev pub invariant-loop-x : goal.invariant-loop-x
-invariant-loop-x g l =
+abbrev pub invariant-loop-i : goal.invariant-loop-i
+invariant-loop-i g l =
     let split = l.self.group.split in
     let order = take split.count l.self.arrays.order in
-    (l.end ≡ l.at + l.x-index)
-    × (sets l.out (l.at + l.x-index) (rows_of split.rows (drop l.x-index order)) ≡ sets l.initial.out l.at (rows_of split.rows order))
+    sets l.out (l.at + l.i) (rows_of split.rows (drop l.i order)) ≡ sets l.initial.out l.at (rows_of split.rows order)

@@ -1,7 +1,6 @@
 use Rattle.rules.specs.Project.{module_limit}
-use Rattle.lists.specs.ArrayLaws.{zeros-replicate}
 use Rattle.owners.specs.GroupBytes.{groups_whole, groups_lists}
-use Rattle.owners.specs.OwnerLaws.{noting-start, noting-below, noting-first, noting-done}
+use Rattle.owners.specs.OwnerLaws.{none-owned, noting-start, noting-below, noting-first, noting-done}
 use Rattle.owners.proofs.Owners.new.Goals as goal
 
 pub new-members-items-requires : goal.new-members-items-requires
@@ -13,7 +12,7 @@ loop-members-init c = (
   tt,
   λ groups n.
       rw (c.into_iter-members-iterator.ensures.into_iter_gives, c.new-members-items.ensures, n.bytes-are, groups_lists groups)
-      (noting-start n (zeros-replicate module_limit).zeros),
+      (noting-start n (none-owned module_limit)),
 )
 
 pub note_members-requires : goal.note_members-requires

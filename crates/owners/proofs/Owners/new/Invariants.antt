@@ -8,4 +8,4 @@ abbrev pub invariant-loop-members : goal.invariant-loop-members
 invariant-loop-members l =
     (goal.iterator-loop-members).can_next l.members-iterator
     × (goal.iterator-loop-members).is_finite l.members-iterator
-    × ((groups : List (List ℕ)) → Notable groups l.bytes l.count → Noting groups l.members-iterator l.left l.owners.array)
+    × ((groups : List (List ℕ)) → Notable groups l.bytes l.count → Noting groups l.members-iterator l.behind l.owners.array)

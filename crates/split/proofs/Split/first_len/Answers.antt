@@ -12,12 +12,13 @@ pub overflow_add-n-in-loop-start : goal.overflow_add-n-in-loop-start
 overflow_add-n-in-loop-start c =
     let k = some (goal.at.overflow_add-n-in-loop-start c).In-loop-start in
     let h = c.requires.1 in
-    rw c.starts-start-items.ensures (omega (arith, c.loop-start.invariant c.requires.0 h, held_more h c.loop-start.start-index k, first-length h, c.requires.2))
+    rw (c.from-n.ensures, c.from-x.ensures, c.starts-start-items.ensures)
+    (omega (arith, c.loop-start.invariant c.requires.0 h, held_more h c.loop-start.start-index k, first-length h, c.requires.2))
 
 pub loop-start-preserved : goal.loop-start-preserved
 loop-start-preserved c =
     let k = some (goal.at.loop-start-preserved c).In-loop-start in
-    λ g h. rw c.starts-start-items.ensures (omega (arith, c.loop-start.invariant g h, held_more h c.loop-start.start-index k))
+    λ g h. rw (c.from-n.ensures, c.from-x.ensures, c.starts-start-items.ensures) (omega (arith, c.loop-start.invariant g h, held_more h c.loop-start.start-index k))
 
 pub returns : goal.returns
 returns c =

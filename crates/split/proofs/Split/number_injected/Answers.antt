@@ -4,17 +4,18 @@ use Rattle.std.proofs.lemmas.List.Edits.{sets}
 use Rattle.laws.specs.Orders.{get_or-∈}
 use Rattle.split.specs.Rows.{numbered_as}
 use Rattle.split.specs.StoreLaws.{part-filled}
-use Rattle.split.specs.SplitLaws.{modules-below, modules-left, modules-room, modules-step, modules-end}
+use Rattle.split.specs.SplitLaws.{modules-left, modules-room, modules-step, modules-end}
 use Rattle.split.proofs.Split.number_injected.Goals as goal
 
 pub number_rows-requires : goal.number_rows-requires
 number_rows-requires c =
     let modules = c.args.modules.now in
     let i = c.loop-m.m-index in
-    let p = c.requires.0 in (
+    let p = c.requires.0 in
+    let m = get_or-∈ modules i 0 c.loop-m-test.true in (
       p,
-      c.requires.1,
-      modules-below c.requires.2 _ (get_or-∈ modules i 0 c.loop-m-test.true),
+      c.requires.1 _ m,
+      c.requires.2.modules-below _ m,
       modules-room (c.loop-m.invariant.2 p c.requires.1) (get_or modules i 0) (drop (i + 1) modules) (modules-left modules i c.loop-m-test.true) c.requires.3,
     )
 
@@ -23,8 +24,9 @@ loop-m-preserved c =
     let modules = c.args.modules.now in
     let i = c.loop-m.m-index in
     let same = c.loop-m.invariant.1 in
+    let m = get_or-∈ modules i 0 c.loop-m-test.true in
     let again = c.number_rows.ensures.ranges in (
-      omega (arith, c.loop-m.invariant.0, (c.number_rows.ensures.numbered c.requires.0 c.requires.1).rows_stored.count),
+      omega (arith, c.loop-m.invariant.0, (c.number_rows.ensures.numbered c.requires.0 (c.requires.1 _ m)).rows_stored.count),
       record {
         low = again.low ∙ same.low;
         high = again.high ∙ same.high;
@@ -34,7 +36,7 @@ loop-m-preserved c =
       },
       λ p h.
           modules-step (c.loop-m.invariant.2 p h) (get_or modules i 0) (drop (i + 1) modules) (modules-left modules i c.loop-m-test.true)
-          (c.number_rows.ensures.numbered p h),
+          (c.number_rows.ensures.numbered p (h _ m)),
     )
 
 pub returns : goal.returns

@@ -2,7 +2,7 @@ use Rattle.std.proofs.Common.{arith, refl, sym, ap, ◌∙◌, ◌≡◌, ◌<�
 use Rattle.rules.specs.Project.{Project, item_limit}
 use Rattle.rules.specs.Items.{kind_at}
 use Rattle.project.specs.declared.sections.ItemRow.{ItemRow}
-use Rattle.split.specs.Rows.{RowsShown, kept_as}
+use Rattle.split.specs.Rows.{RowsOf, kept_as}
 use Rattle.split.specs.RowLaws.{kind-read, row-room}
 use Rattle.split.specs.SplitLaws.{numbering-start, numbering-below, numbering-room, numbering-one, numbering-past, numbering-rows, numbering-kinds}
 use Rattle.split.proofs.Split.number_rows.Goals as goal
@@ -15,7 +15,7 @@ loop-row-init c =
       tt,
       tt,
       record { low = refl; high = refl; starts = refl; modules = refl; uninjected = refl },
-      λ p h. rw (h.along c.args.m.0 c.requires.2) (numbering-start p c.args.m.0 c.args.injected c.args.items.now h s),
+      λ p h. rw h.along (numbering-start p c.args.m.0 c.args.injected c.args.items.now h s),
     )
 
 -- the row is one of the items, and fits 16 bits
@@ -26,7 +26,7 @@ pub nth-requires : goal.nth-requires
 nth-requires c = row-room c.requires.1 c.in-Some.row (below (goal.at.nth-requires c).In-Some)
 
 -- whether it is kept as asked
-test : (c : After-is_kept_as) {p : Project} → RowsShown p c.args.items.now → c.in-Some.row < length p.items → kept_as c.args.injected (kind_at p c.in-Some.row) ≡ c.is_kept_as.result
+test : (c : After-is_kept_as) {p : Project} → RowsOf p c.args.m.0 c.args.items.now → c.in-Some.row < length p.items → kept_as c.args.injected (kind_at p c.in-Some.row) ≡ c.is_kept_as.result
 test c h k =
     ap (kept_as c.args.injected) (kind-read h c.in-Some.row k ∙ sym (ap (λ (r : ItemRow). r.kind.0) c.nth.ensures)) ∙ sym c.is_kept_as.ensures
 

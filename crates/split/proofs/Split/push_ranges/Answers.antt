@@ -19,19 +19,19 @@ within c =
     omega (arith, push-below h (c.loop-start.invariant.2 c.requires.0 h) _ _ c.in-Some.ensures.steps, h.ranges-shown.low-size, c.args.self.now.sizes)
 
 pub bounds-self-x : goal.bounds-self-x
-bounds-self-x c = within (goal.at.bounds-self-x c).In-Some
+bounds-self-x c = rw c.from-x.ensures (within (goal.at.bounds-self-x c).In-Some)
 
 pub push_numbers-n-requires : goal.push_numbers-n-requires
 push_numbers-n-requires c =
-    let h = c.requires.1 in
-    let x = c.in-Some.field-0.now in (
+    let h = c.requires.1 in (
       search rules,
-      push-room h (c.loop-start.invariant.2 c.requires.0 h) _ _ c.in-Some.ensures.steps c.requires.2,
+      rw (c.from-in-loop-start.ensures, c.from.ensures, c.from-x.ensures) (push-room h (c.loop-start.invariant.2 c.requires.0 h) _ _ c.in-Some.ensures.steps c.requires.2),
     )
 
 pub loop-start-preserved : goal.loop-start-preserved
 loop-start-preserved c = (
   tt,
   tt,
-  λ g h. push-turn h (c.loop-start.invariant.2 g h) _ _ c.in-Some.ensures.steps c.push_numbers-n.ensures c.push_numbers-n.auto.list,
+  λ g h. push-turn h (c.loop-start.invariant.2 g h) _ _ c.in-Some.ensures.steps
+      (rw (c.from-in-loop-start.ensures, c.from.ensures, c.from-x.ensures) at c.push_numbers-n.ensures) c.push_numbers-n.auto.list,
 )

@@ -1,13 +1,13 @@
 -- `Split::split_items` meets its contract: its parts in turn. Assumes nothing.
 use Rattle.std.proofs.Common.{arith}
-use Rattle.split.specs.SplitLaws.{numbering-most, numbered-parts}
+use Rattle.split.specs.SplitLaws.{numbered-parts}
 use Rattle.split.specs.ShownLaws.{split-stored, split-shown}
 use Rattle.split.proofs.Split.split_items.Goals as goal
 
 pub number_injected-requires : goal.number_injected-requires
 number_injected-requires c =
     let first = c.number_uninjected.ensures c.requires.0 c.requires.1 c.requires.2 in
-    (c.requires.0, c.requires.1, c.requires.2, omega (arith, first.rows_stored.count, numbering-most c.requires.2, numbered-parts c.requires.0 c.args.modules.now))
+    (c.requires.0, c.requires.1, c.requires.2, omega (arith, first.rows_stored.count, c.requires.2.numbering-most, numbered-parts c.requires.0 c.args.modules.now))
 
 pub returns : goal.returns
 returns c =

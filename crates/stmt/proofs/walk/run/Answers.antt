@@ -3,9 +3,9 @@ use Rattle.walks.specs.RunLaws.{ran-as}
 use Rattle.stmt.proofs.RunLaws.{same_self, order-shown}
 use Rattle.stmt.proofs.walk.run.Goals as goal
 
-pub run-requires-clause-walking : goal.run-requires-clause-walking
-run-requires-clause-walking g c =
-    let r = c.requires.walking in
+pub run-requires : goal.run-requires
+run-requires g c =
+    let r = c.requires in
     (r.0, r.1, (r.0, same_self r.0, r.2))
 
 pub returns : goal.returns

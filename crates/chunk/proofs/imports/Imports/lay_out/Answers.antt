@@ -10,16 +10,16 @@ loop-row-init c =
     (tt, tt, rw (c.into_iter-row-iterator.ensures.into_iter_gives, c.new-row-items.ensures) started, n.heads)
 
 pub add-requires : goal.add-requires
-add-requires c = (omega arith, laying-room c.loop-row.self.rows c.in-Some.ensures.steps c.loop-row.invariant.2)
+add-requires c = (omega arith, rw (c.from.ensures, c.from-in-loop-row.ensures) (laying-room c.loop-row.self.rows c.in-Some.ensures.steps c.loop-row.invariant.2))
 
 pub invariant_of-self : goal.invariant_of-self
 invariant_of-self c =
-    let next = laying-next c.loop-row.self.rows c.in-Some.ensures.steps c.loop-row.invariant.2 c.add.new.self c.add.ensures in
+    let next = laying-next c.loop-row.self.rows c.in-Some.ensures.steps c.loop-row.invariant.2 c.add.new.self (rw (c.from.ensures, c.from-in-loop-row.ensures) at c.add.ensures) in
     record { below = next.to_below }
 
 pub loop-row-preserved : goal.loop-row-preserved
 loop-row-preserved c =
-    (tt, tt, laying-next c.loop-row.self.rows c.in-Some.ensures.steps c.loop-row.invariant.2 c.add.new.self c.add.ensures, c.loop-row.invariant.3)
+    (tt, tt, laying-next c.loop-row.self.rows c.in-Some.ensures.steps c.loop-row.invariant.2 c.add.new.self (rw (c.from.ensures, c.from-in-loop-row.ensures) at c.add.ensures), c.loop-row.invariant.3)
 
 pub returns : goal.returns
 returns c =

@@ -37,5 +37,5 @@ returns c =
     let end : it.iter.iter.end ≡ 0 = omega (arith, steps, c.loop-i.invariant) in
     let count : it.count ≡ n = omega (arith, steps, c.loop-i.invariant) in
     let none = c.default.ensures in
-    rw (none.1.0, none.1.1.0, none.1.1.1.0, none.1.1.1.1)
+    rw (c.from-n.ensures, none.1.0, none.1.1.0, none.1.1.1.0, none.1.1.1.1)
     (walk-started n c.args.entry.0 (omega arith) (rw (stack_push c.loop-i.list n c.args.entry.0 (omega arith), rw (end, count) at filled)))

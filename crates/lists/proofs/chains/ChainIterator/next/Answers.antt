@@ -9,9 +9,9 @@ returns-then-self-eq0-clause-steps c =
 
 pub returns-clause-steps : goal.returns-clause-steps
 returns-clause-steps c =
-    places-first c.args.self.now.next.now c.args.self.now.entry c.args.self.now.leads (omega arith)
+    rw c.from-place.ensures (places-first c.args.self.now.next.now c.args.self.now.entry c.args.self.now.leads (omega (arith, c.from-place.ensures)))
 
 pub returns-clause-goes : goal.returns-clause-goes
 returns-clause-goes c =
-    let first = places-first c.args.self.now.next.now c.args.self.now.entry c.args.self.now.leads (omega arith) in
+    let first = places-first c.args.self.now.next.now c.args.self.now.entry c.args.self.now.leads (omega (arith, c.from-place.ensures)) in
     let fewer = ap length first in search rules

@@ -1,8 +1,10 @@
--- `Chains::link` meets its contract. The loop's invariant: the places from `place` on are chained. Assumes nothing.
-use Rattle.std.proofs.Common.{length}
+-- `Chains::link` meets its contract. The loop's invariant: the places behind the keys that are left are chained. Assumes nothing.
+use Rattle.std.proofs.Common.{◌≡◌, length, take}
 use Rattle.lists.specs.Pairs.{Linked}
 use Rattle.lists.proofs.chains.Chains.link.Given as goal
 
 abbrev pub invariant-loop-place : goal.invariant-loop-place
 invariant-loop-place g l =
-    Linked l.place l.keys (length l.keys) l.initial.self.heads l.initial.self.next l.self.heads l.self.next
+    let keys = l.place-iterator.iter in
+    let left = keys.iter.rest.now in
+    (keys.count ≡ 0) × (left ≡ take (length left) l.keys) × Linked (length left) l.keys (length l.keys) l.initial.self.heads l.initial.self.next l.self.heads l.self.next

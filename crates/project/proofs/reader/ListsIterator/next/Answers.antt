@@ -12,17 +12,17 @@ here : (c : In_ok-count) → First c.in_ok-count.count.now c.in_ok-count.rest.no
 here c = let e = c.in_ok-count.ensures.cases in whole_first _ _ (rw e.0 at c.self.invariant)
 
 pub split_at-requires : goal.split_at-requires
-split_at-requires c = (here (goal.at.split_at-requires c).In_ok-count).within
+split_at-requires c = rw c.from.ensures ((here (goal.at.split_at-requires c).In_ok-count).within)
 
 pub invariant_of-self : goal.invariant_of-self
-invariant_of-self c = rw c.split_at.ensures.back ((here (goal.at.invariant_of-self c).In_ok-count).whole)
+invariant_of-self c = rw (c.split_at.ensures.back, c.from.ensures) ((here (goal.at.invariant_of-self c).In_ok-count).whole)
 
 pub returns-clause-steps : goal.returns-clause-steps
 returns-clause-steps c =
     let e = c.in_ok-count.ensures.cases in
-    sym c.self.view_is ∙ lists_first c.self.invariant e.0 c.split_at.ensures.front c.split_at.ensures.back
+    sym c.self.view_is ∙ lists_first c.self.invariant e.0 (rw c.from.ensures at c.split_at.ensures.front) (rw c.from.ensures at c.split_at.ensures.back)
 
 pub returns-clause-goes : goal.returns-clause-goes
 returns-clause-goes c =
     let e = c.in_ok-count.ensures.cases in
-    rw (sym c.self.view_is ∙ lists_first c.self.invariant e.0 c.split_at.ensures.front c.split_at.ensures.back) (search rules)
+    rw (sym c.self.view_is ∙ lists_first c.self.invariant e.0 (rw c.from.ensures at c.split_at.ensures.front) (rw c.from.ensures at c.split_at.ensures.back)) (search rules)

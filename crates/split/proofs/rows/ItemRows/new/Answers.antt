@@ -20,7 +20,7 @@ pub put_first-requires : goal.put_first-requires
 put_first-requires c =
     let at_head = (goal.at.put_first-requires c).After-nth in
     let few = rows-count c.requires.0 c.args.section.now c.requires.1 c.requires.2 in
-    (search rules, (omega (arith, key at_head, below at_head), ((omega arith, omega arith), λ some. omega (arith, (c.loop-row.invariant.heads-onward c.nth.result.in_module.0 (c.new-chains.ensures.heads _)).0 some))))
+    (search rules, (omega (arith, c.from.ensures, key at_head, below at_head), ((omega arith, omega arith), λ some. omega (arith, (c.loop-row.invariant.heads-onward c.from.result (c.new-chains.ensures.heads _)).0 some))))
 
 pub loop-row-preserved : goal.loop-row-preserved
 loop-row-preserved c =
@@ -28,7 +28,7 @@ loop-row-preserved c =
     let few = rows-count c.requires.0 c.args.section.now c.requires.1 c.requires.2 in
     let section = c.args.section.now in
     let chains = c.loop-row.chains in
-    rw (c.put_first.ensures.heads, c.put_first.ensures.next, ← key at_head)
+    rw (c.put_first.ensures.heads, c.put_first.ensures.next, c.from.ensures, ← key at_head)
     (link-turn (modules_in section) c.new-chains.result.heads c.new-chains.result.next chains.heads chains.next (length section / 2) c.loop-row.row
     c.loop-row-test.true (omega arith) (omega (arith, modules-length section)) (omega (arith, chains.sizes)) (omega (arith, below at_head, chains.sizes))
     (c.new-chains.ensures.heads _) c.loop-row.invariant)

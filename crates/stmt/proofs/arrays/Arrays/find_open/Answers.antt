@@ -13,7 +13,7 @@ loop-d-init g c = (
   tt,
   (refl, refl, refl),
   λ i w s h x.
-      finding-start c.args.x.id.0 (rw (c.into_iter-d-iterator.ensures.into_iter_gives) (c.dependencies-d-items.ensures i.needs h.laid.needs-laid (rw h.laid.nodes-is x.below))) h,
+      finding-start c.args.x.id.0 (rw (c.into_iter-d-iterator.ensures.into_iter_gives) (c.dependencies-d-items.ensures i.needs h.laid.needs-laid.neighbours (rw h.laid.nodes-is x.below))) h,
 )
 
 pub skips-requires : goal.skips-requires

@@ -14,7 +14,7 @@ loop-d-init g c = (
   (refl, refl, refl, refl),
   λ i s laid h x.
       pushing-start
-      (rw c.into_iter-d-iterator.ensures.into_iter_gives (c.dependants-d-items.ensures i.needs laid.needs-laid (rw laid.nodes-is x)))
+      (rw c.into_iter-d-iterator.ensures.into_iter_gives (c.dependants-d-items.ensures i.needs laid.needs-laid.neighbours (rw laid.nodes-is x)))
       laid.formed h,
 )
 

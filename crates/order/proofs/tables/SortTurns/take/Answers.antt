@@ -1,7 +1,7 @@
--- `take_turns` meets its contract: its parts in turn. Assumes nothing.
+-- `SortTurns::take` meets its contract: its parts in turn. Assumes nothing.
 use Rattle.std.proofs.Common.{rules}
 use Rattle.order.specs.ReadyLaws.{sorting}
-use Rattle.order.proofs.tables.take_turns.Goals as goal
+use Rattle.order.proofs.tables.SortTurns.take.Goals as goal
 
 pub new-sort-requires : goal.new-sort-requires
 new-sort-requires g c = let known = c.requires.bounds in (search rules, (known.0, known.1))
