@@ -84,8 +84,8 @@ impl Imports {
             .sum()
     }
 
-    // Puts the open imports of m below `top`, the first uppermost; the index of the last. How many they are only the loop tells, so that the index is
-    // taken down by hand.
+    // Puts the open imports of m below `top`, the first uppermost; the index of the last. How many there are is known only after the loop, so the
+    // index is counted down by hand.
     fn place_open(&self, m: ModuleId, done: u64, circle: u64, list: &mut [u8], top: usize) -> usize
         requires m_lt_module_limit { m.0 < module_limit }
         requires placeable { Placeable top (open_of self.now done circle m.0) list.old }

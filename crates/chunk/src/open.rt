@@ -37,7 +37,7 @@ impl<'a> Iterator for Open<'a> {
     ghost remaining = { item_count (λ s. open_from s.to.now s.chain.next.now s.done s.circle s.chain.entry) };
 
     fn next(&mut self) -> Option<ModuleId> {
-        // No `find` over the chain: its closure would need clauses of its own.
+        // No `find` over the chain: that its closure may be called at each place would have to be shown by hand.
         while let Some(place) = self.chain.next() {
             let d = ModuleId(self.to[place] as u8);
             if is_open(d, self.done, self.circle) {

@@ -18,7 +18,8 @@ use std::convert::Infallible;
 use walks::{Allowance, Outcome, Stop, Visits};
 
 // The numbers of the walk's state: the end of the list, the modules done and marked, and the groups made with the bytes that they take. List and groups
-// are arrays with an end and no `ArrayVec`: a host gets the groups' bytes as they stand, and a list is read from its end.
+// are arrays with an end and no `ArrayVec`: open imports are put in from the new end downwards, and the ends are numbers of the state, which a visit
+// hands on by copy.
 #[derive(Clone, Copy, Default)]
 pub struct ModuleWalk {
     pub end: usize,

@@ -82,10 +82,10 @@ pub record EdgeAdded (words n x y weight : ℕ) (m : Matrices) (from to : List �
 
 -- The arrays of a graph show needs.
 abbrev pub matrices_of : {WORDS NEEDS : ℕ} → Graph WORDS NEEDS → Matrices
-matrices_of g = matrices g.pairs.seen g.weak g.reach g.into g.paths
+matrices_of g = matrices g.pairs.seen g.weak.cells g.reach.cells g.into g.paths.cells
 
 abbrev pub Shown : {WORDS NEEDS : ℕ} → List Need → Graph WORDS NEEDS → Type 0
-Shown graph g = Shows g.words g.nodes graph (matrices_of g) g.pairs.from g.pairs.to g.pairs.count
+Shown graph g = Shows g.weak.words g.nodes graph (matrices_of g) g.pairs.from g.pairs.to g.pairs.count
 
 -- The neighbours of an item on its chain, and those that an iterator has left.
 abbrev pub neighbours_at : {NEEDS : ℕ} → List ℕ → Chains item_limit NEEDS → ℕ → List ℕ
@@ -102,8 +102,8 @@ pub record NeighboursLaid {WORDS NEEDS : ℕ} (needs : List Need) (g : Graph WOR
 -- Needs laid out for a walk: the neighbours, the record of paths, and the weights that are Maybe.
 pub record Laid {WORDS NEEDS : ℕ} (needs : List Need) (g : Graph WORDS NEEDS) : Type 0 where
   pub neighbours : NeighboursLaid needs g
-  pub paths-shown : Holds g.words g.nodes (in_paths (reverse needs)) g.paths
-  pub weak-shown : Holds g.words g.nodes (is_maybe (reverse needs)) g.weak
+  pub paths-shown : Holds g.weak.words g.nodes (in_paths (reverse needs)) g.paths.cells
+  pub weak-shown : Holds g.weak.words g.nodes (is_maybe (reverse needs)) g.weak.cells
 
 -- What chaining the neighbours asks for: pairs of items.
 pub record LinkRoom {WORDS NEEDS : ℕ} (g : Graph WORDS NEEDS) : Type 0 where
@@ -117,7 +117,7 @@ PairsOf needs g = pairs_of g.pairs.from g.pairs.to g.pairs.count ≡ different_p
 -- After the neighbours were chained all else is as it was, but for the heads of numbers that are no items, which are left free.
 pub record Linked {WORDS NEEDS : ℕ} (old new : Graph WORDS NEEDS) : Type 0 where
   pub matrices-kept : matrices_of new ≡ matrices_of old
-  pub words-kept : new.words ≡ old.words
+  pub words-kept : new.weak.words ≡ old.weak.words
   pub from-kept : new.pairs.from ≡ old.pairs.from
   pub to_kept : new.pairs.to ≡ old.pairs.to
   pub count-kept : new.pairs.count ≡ old.pairs.count

@@ -26,7 +26,7 @@ enters_others reaches x y a b = eqb b y && not (eqb a y) && (eqb a x || reaches 
 unfoldable pub enters_either : (ℕ → ℕ → Bool) → ℕ → ℕ → ℕ → ℕ → Bool
 enters_either reaches x y a b = (eqb a x && enters_own reaches x y b) || enters_others reaches x y a b
 
--- What entering the way from x to y into row a of both matrices asks for, and what it gives, with the set that joins.
+-- What entering the way from x to y into row a of both matrices, where a reaches x, asks for, and what it gives, with the set that joins.
 pub record RowRoom (words a x y : ℕ) (row reach paths : List ℕ) : Type 0 where
   pub column : y < 64 * words
   pub arrival : Place words a x reach
@@ -35,8 +35,8 @@ pub record RowRoom (words a x y : ℕ) (row reach paths : List ℕ) : Type 0 whe
   pub row-size : words ≤ length row
 
 pub record RowEntered (words a x y : ℕ) (set : ℕ → Bool) (reach paths reach' paths' : List ℕ) : Type 0 where
-  pub reached : RowJoined words a (joins (cell words reach) x set a) reach reach'
-  pub entered : RowJoined words a (enters_others (cell words reach) x y a) paths paths'
+  pub reached : RowJoined words a (λ b. cell words reach a x && set b) reach reach'
+  pub entered : RowJoined words a (λ b. eqb b y && not (eqb a y) && cell words reach a x) paths paths'
 
 -- The same of each of the first n rows.
 pub record WayRoom (words n x y : ℕ) (reach paths : List ℕ) : Type 0 where
@@ -46,8 +46,8 @@ pub record WayRoom (words n x y : ℕ) (reach paths : List ℕ) : Type 0 where
   pub second : y < n
 
 pub record RowsEntered (words n x y : ℕ) (set : ℕ → Bool) (reach paths reach' paths' : List ℕ) : Type 0 where
-  pub reached : RowsJoined words n (joins (cell words reach) x set) reach reach'
-  pub entered : RowsJoined words n (enters_others (cell words reach) x y) paths paths'
+  pub reached : RowsJoined words n (λ a b. cell words reach a x && set b) reach reach'
+  pub entered : RowsJoined words n (λ a b. eqb b y && not (eqb a y) && cell words reach a x) paths paths'
 
 -- What entering into the record's row of x asks for.
 pub record OwnRoom (words x y : ℕ) (row paths : List ℕ) : Type 0 where

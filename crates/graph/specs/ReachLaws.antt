@@ -2,7 +2,7 @@
 use Rattle.std.specs.Prelude.{ℕ, ◌+◌, ◌*◌, ◌≤◌, ◌<◌, ◌≡◌, refl, Bool, false, length}
 use Rattle.std.proofs.Common.{arith, ◌∙◌, ⊎_elim, eqb-true, eq-eqb, ne_eqb}
 use Rattle.std.proofs.Math.Path.{sym, ap, ap₂}
-use Rattle.std.proofs.Math.Bool.{true, not, ◌&&◌, ◌||◌, or_assoc, or_comm, or-false, and-true, and-false, and_comm}
+use Rattle.std.proofs.Math.Bool.{true, not, ◌&&◌, ◌||◌, or_comm, or-false, and-true, and-false, and_comm}
 use mathlib.Core.List.{List, ◌∷◌}
 use Rattle.std.proofs.Math.Dec.{eqb}
 use Rattle.rules.specs.Project.{Need, need_row}
@@ -11,7 +11,7 @@ use Rattle.laws.specs.Lists.{both, either, eqb-sym}
 use Rattle.laws.specs.PathLaws.{reaches-join, can_reach-sound, can_reach-complete, in_paths-sound}
 use Rattle.lists.specs.Bits.{bit_at, Inserted, Removed}
 use Rattle.graph.specs.Rows.{cell, Holds, RowJoined}
-use Rattle.graph.specs.RowLaws.{column, row_within, place, rows-sized, rows_none, rows_more, rows_same, row_same, row-left, row_one}
+use Rattle.graph.specs.RowLaws.{column, row_within, place, rows-sized, rows_none, rows_more, row_same, row-left, row_one}
 use Rattle.graph.specs.Reach.{joins, onward, enters_own, enters_others, enters_either}
 use Rattle.graph.specs.Reach.{OwnRoom, RowRoom, RowEntered, RowsEntered, WayRoom, WayEntered, Transposed, AddRoom, WayAdded}
 
@@ -31,6 +31,19 @@ arrives-again : (e s t : Bool) → (e || (s || ((e || s) && t))) ≡ (e || s)
 arrives-again true s t = refl
 arrives-again false true t = refl
 arrives-again false false t = refl
+
+joined-own : (p r e s : Bool) → ((p || (r && s)) || (e && s)) ≡ (p || ((e || r) && s))
+joined-own true r e s = refl
+joined-own false true true true = refl
+joined-own false true true false = refl
+joined-own false true false s = or-false s
+joined-own false false e s = rw (or-false e)
+
+entered-own : (p e f r s o : Bool) → ((p || (e && f && r)) || (s && (e || o))) ≡ (p || ((s && (e || o)) || (e && f && (s || r))))
+entered-own true e f r s o = refl
+entered-own false false f r s o = sym (or-false (s && o))
+entered-own false true f r true o = or_comm (f && r) true
+entered-own false true f r false o = or-false (f && r)
 
 pub own-set : (e f r : Bool) → (e || (not f && (e || r))) ≡ (e || (r && not f))
 own-set true f r = refl
@@ -79,19 +92,19 @@ other-there words a y apart column i =
 pub other-itself : (words a y : ℕ) (old : List ℕ) → a ≡ y → RowJoined words a (λ b. eqb b y && not (eqb a y)) old old
 other-itself words a y old e = row-left words a old (λ b. rw (eq-eqb a y e, and-false))
 
--- The rows of an item in both matrices, where it is x or reaches it. Here and below `t` is what a call answered.
+-- The rows of an item in both matrices, where it reaches x. Here and below `t` is what a call answered.
 module _ (words a x y : ℕ) (row reach paths : List ℕ) where
-  pub row-there : {t : Bool} {reach' paths' : List ℕ} → t ≡ (eqb a x || cell words reach a x) → t ≡ true → RowJoined words a (bit_at row) reach reach'
+  pub row-there : {t : Bool} {reach' paths' : List ℕ} → t ≡ cell words reach a x → t ≡ true → RowJoined words a (bit_at row) reach reach'
       → RowJoined words a (λ b. eqb b y && not (eqb a y)) paths paths' → RowEntered words a x y (bit_at row) reach paths reach' paths'
-  unfolding joins enters_others
   row-there e s j k =
       record {
-        reached = row_same (joins (cell words reach) x (bit_at row) a) (λ b h. rw (sym e ∙ s)) j;
-        entered = row_same (enters_others (cell words reach) x y a) (λ b h. rw (sym e ∙ s) (sym (and-true (eqb b y && not (eqb a y))))) k;
+        reached = row_same (λ b. cell words reach a x && bit_at row b) (λ b h. rw (sym e ∙ s)) j;
+        entered =
+            row_same (λ b. eqb b y && not (eqb a y) && cell words reach a x)
+            (λ b h. rw (sym e ∙ s) (sym (and-true (eqb b y && not (eqb a y))))) k;
       }
 
-  pub row-not : {t : Bool} → t ≡ (eqb a x || cell words reach a x) → t ≡ false → RowEntered words a x y (bit_at row) reach paths reach paths
-  unfolding joins enters_others
+  pub row-not : {t : Bool} → t ≡ cell words reach a x → t ≡ false → RowEntered words a x y (bit_at row) reach paths reach paths
   row-not e s =
       record {
         reached = row-left words a reach (λ b. rw (sym e ∙ s));
@@ -130,12 +143,11 @@ rows_start = record { reached = rows_none; entered = rows_none }
 pub rows-turn : {words i x y : ℕ} {set : ℕ → Bool} {reach paths now-reach now-paths new-reach new-paths : List ℕ} → x < 64 * words
     → RowsEntered words i x y set reach paths now-reach now-paths → RowEntered words i x y set now-reach now-paths new-reach new-paths
     → RowsEntered words (i + 1) x y set reach paths new-reach new-paths
-unfolding joins enters_others
 rows-turn {words} {i} {x} {y} {set} {reach} within j k =
     let same = j.reached.rest i x (omega arith) within in
     record {
-      reached = rows_more j.reached (row_same (joins (cell words reach) x set i) (λ b h. rw same) k.reached);
-      entered = rows_more j.entered (row_same (enters_others (cell words reach) x y i) (λ b h. rw same) k.entered);
+      reached = rows_more j.reached (row_same (λ b. cell words reach i x && set b) (λ b h. rw same) k.reached);
+      entered = rows_more j.entered (row_same (λ b. eqb b y && not (eqb i y) && cell words reach i x) (λ b h. rw same) k.entered);
     }
 
 -- The row of x joined with y and what a row holds except x.
@@ -144,26 +156,35 @@ pub own-joined : {words x y : ℕ} {row without with old new : List ℕ} → Rem
 own-joined {x = x} {y} {row} r i j =
     row_same (λ b. eqb b y || (not (eqb b x) && bit_at row b)) (λ b h. i.bits b ∙ ap (λ (t : Bool). eqb b y || t) (r.bits b)) j
 
--- Both matrices, where the rows that arrive at x were joined with a copy of y's row, with y, and then the record's row of x.
+-- Both matrices, where the rows that reach x were joined with a copy of y's row, with y, and then the rows of x.
 module _ {words n x y : ℕ} {reach paths : List ℕ} (r : WayRoom words n x y reach paths) where
-  pub way-entered : {copied row now reach' paths' : List ℕ} → ((b : ℕ) → b < 64 * words → bit_at copied b ≡ cell words reach y b) → Inserted y copied row
-      → RowsEntered words n x y (bit_at row) reach paths reach' now
+  pub way-entered : {copied row now-reach now reach' paths' : List ℕ} → ((b : ℕ) → b < 64 * words → bit_at copied b ≡ cell words reach y b) → Inserted y copied row
+      → RowsEntered words n x y (bit_at row) reach paths now-reach now → RowJoined words x (bit_at row) now-reach reach'
       → RowJoined words x (λ b. eqb b y || (not (eqb b x) && bit_at row b)) now paths' → WayEntered words n x y reach paths reach' paths'
-  unfolding joins onward enters_own enters_either
-  way-entered {copied} {row} {now} bits i j k =
+  unfolding joins onward enters_own enters_others enters_either
+  way-entered {copied} {row} {now-reach} {now} bits i j l k =
       record {
         reached =
-            rows_same (joins (cell words reach) x (onward (cell words reach) y))
-            (λ a b h. ap (λ (t : Bool). (eqb a x || cell words reach a x) && t) (set b h)) j.reached;
+            record {
+              rows =
+                  λ a b below within.
+                  l.cells a b within
+                  ∙ ap₂ ◌||◌ (j.reached.rows a b below within) refl
+                  ∙ rw (set b within)
+                  (joined-own (cell words reach a b) (cell words reach a x) (eqb a x) (onward (cell words reach) y b));
+              rest =
+                  λ a b below within.
+                  l.cells a b within
+                  ∙ rw (ne_eqb a x (λ same. omega (arith, r.first)), or-false) (j.reached.rest a b below within);
+            };
         entered =
             record {
               rows =
                   λ a b below within.
                   k.cells a b within
                   ∙ ap₂ ◌||◌ (j.entered.rows a b below within) (ap (λ (t : Bool). eqb a x && t) (own b within))
-                  ∙ or_assoc (cell words paths a b) (enters_others (cell words reach) x y a b) (eqb a x && enters_own (cell words reach) x y b)
-                  ∙ ap (λ (t : Bool). cell words paths a b || t)
-                  (or_comm (enters_others (cell words reach) x y a b) (eqb a x && enters_own (cell words reach) x y b));
+                  ∙ entered-own (cell words paths a b) (eqb b y) (not (eqb a y)) (cell words reach a x) (eqb a x)
+                  (cell words reach y b && not (eqb b x));
               rest =
                   λ a b below within.
                   k.cells a b within

@@ -1,26 +1,39 @@
 -- Laws of bit matrices. Assumes nothing.
-use Rattle.std.specs.Prelude.{ℕ, ◌+◌, ◌*◌, ◌/◌, ◌%◌, ◌≤◌, ◌<◌, ◌≡◌, Bool, true, false, ◌&&◌, ◌||◌, List, ◌++◌, eqb, length, get_or, set, take, drop, replicate}
+use Rattle.std.specs.Prelude.{ℕ, ◌+◌, ◌-◌, ◌*◌, ◌^◌, ◌/◌, ◌%◌, ◌≤◌, ◌<◌, ◌≡◌, Bool, true, false, ◌&&◌, ◌||◌, List, ◌++◌, eqb, length, get_or, set, take, drop, replicate}
 use Rattle.std.proofs.Common.{arith, add-one, zero-add, mul-le-mul_right, mul-le-mul, sym, ap, ◌∙◌, length-take, length-drop, get_or-take, get_or-drop, eqb-true, eq-eqb, ne_eqb}
 use Rattle.std.proofs.Math.Path.{refl}
 use Rattle.std.proofs.Math.Bool.{and-false, or-false, or_comm}
 use Rattle.std.proofs.lemmas.List.{length-replicate, get_or-replicate}
 use Rattle.std.proofs.Math.ListN.{get_or-append}
 use Rattle.std.proofs.Math.Seq.{paste-suc}
-use Rattle.std.specs.Int.Bits.{bit_or}
+use Rattle.std.specs.Int.Bits.{bit_and, bit_or}
 use Rattle.std.proofs.lemmas.Bool.{eqb-false}
 use Rattle.laws.specs.Lists.{Tested, holds, fails, tested, both}
 use Rattle.lists.specs.Bits.{bit, bit_at, Inserted, Removed}
 use Rattle.lists.specs.ArrayLaws.{after-set}
-use Rattle.lists.specs.BitLaws.{bit-or, bit-none, cell-eqb, cell_below}
+use Rattle.lists.specs.BitLaws.{row-insert as word-insert, row-remove as word-remove, bit-or, bit-none, cell-eqb, cell_below}
 use Rattle.graph.specs.Rows.{Rows, Place, cleared, cell, Holds, RowJoined, RowsJoined, Stored}
 
 -- Bit b of row a is a bit of word b / 64 of that row.
-pub cell-word : (words : ℕ) (matrix : List ℕ) (a b : ℕ) → cell words matrix a b ≡ bit (get_or matrix (a * words + b / 64) 0) (b % 64)
-unfolding bit_at
-cell-word words matrix a b =
-    let word : (a * (64 * words) + b) / 64 ≡ a * words + b / 64 = omega arith in
-    let place : (a * (64 * words) + b) % 64 ≡ b % 64 = omega arith in
-    rw (word, place)
+module _ (words : ℕ) (matrix : List ℕ) (a b : ℕ) where
+  word_at : (a * (64 * words) + b) / 64 ≡ a * words + b / 64
+  word_at = omega arith
+
+  bit_in : (a * (64 * words) + b) % 64 ≡ b % 64
+  bit_in = omega arith
+
+  pub cell-word : cell words matrix a b ≡ bit (get_or matrix (a * words + b / 64) 0) (b % 64)
+  unfolding bit_at
+  cell-word = rw (word_at, bit_in)
+
+  -- the bit put into the row, and taken out of it
+  pub row-insert : Place words a b matrix → Inserted (a * (64 * words) + b) matrix
+      (set matrix (a * words + b / 64) (bit_or (get_or matrix (a * words + b / 64) 0) (1 * 2 ^ (b % 64) % 2 ^ 64)))
+  row-insert p = rw (word_at, bit_in) at (word-insert matrix (a * (64 * words) + b) p.within)
+
+  pub row-remove : Place words a b matrix → Removed (a * (64 * words) + b) matrix
+      (set matrix (a * words + b / 64) (bit_and (get_or matrix (a * words + b / 64) 0) (2 ^ 64 - 1 - 1 * 2 ^ (b % 64) % 2 ^ 64)))
+  row-remove p = rw (word_at, bit_in) at (word-remove matrix (a * (64 * words) + b) p.within)
 
 -- Places in rows are equal only where the rows and the places in them are.
 pub same_place : (width a b c d : ℕ) → b < width → d < width → a * width + b ≡ c * width + d → (a ≡ c) × (b ≡ d)
@@ -115,11 +128,6 @@ rows_more {words} {i} {sets} {old} {now} {new} j k =
     go : (a b : ℕ) → a < i + 1 → b < 64 * words → Tested (eqb a i) → cell words new a b ≡ (cell words old a b || sets a b)
     go a b h g (holds e) = k.cells a b g ∙ rw (e, eqb-true a i e, j.rest i b (omega arith) g)
     go a b h g (fails e) = let d = eqb-false a i e in k.cells a b g ∙ rw (e, or-false) (j.rows a b (omega arith) g)
-
--- Rows joined with the same sets.
-pub rows_same : {words n : ℕ} {sets : ℕ → ℕ → Bool} {old new : List ℕ} (sets' : ℕ → ℕ → Bool)
-    → ((a b : ℕ) → b < 64 * words → sets a b ≡ sets' a b) → RowsJoined words n sets old new → RowsJoined words n sets' old new
-rows_same sets' same j = record { rows = λ a b h g. rw (← same a b g) (j.rows a b h g); rest = j.rest }
 
 -- A row joined with the same set, with nothing, and with one number.
 pub row_same : {words a : ℕ} {set : ℕ → Bool} {old new : List ℕ} (set' : ℕ → Bool) → ((b : ℕ) → b < 64 * words → set b ≡ set' b)

@@ -1,5 +1,5 @@
 // The graph of one group's needs (StmtDepGraph): weights, what each item reaches, the record of paths, and neighbours in the order of first rows. The
-// items are the numbers below `nodes`. A matrix has a row of `words` words for each of them. `remove_node` takes out nothing, so there is none here.
+// items are the numbers below `nodes`. A matrix has a row for each of them. `remove_node` takes out nothing, so there is none here.
 #![tactic(auto)]
 
 ghost use Rattle.std.specs.Prelude.{ℕ, ◌+◌, ◌*◌, ◌≤◌, ◌<◌, ◌≡◌, eqb, length, get_or};
@@ -16,35 +16,36 @@ use lists::pairs::Pairs;
 use neighbours::Neighbours;
 use project::kinds::WeightByte;
 use project::{Layout, NodeId};
+use rows::Matrix;
 
-// `into` has what reaches each item, and is used only where rows have one word; `outgoing` and `incoming` chain the pairs by their first numbers and
-// by their second ones.
+// The rows of `weak`, `reach` and `paths` have as many words. `into` has what reaches each item, and is used only where rows have one word; `outgoing`
+// and `incoming` chain the pairs by their first numbers and by their second ones.
 #[derive(Drop)]
 pub struct Graph<const WORDS: usize, const NEEDS: usize> {
     pub nodes: usize,
-    pub words: usize,
     pub pairs: Pairs<WORDS, NEEDS>,
-    pub weak: [u64; WORDS],
-    pub reach: [u64; WORDS],
+    pub weak: Matrix<WORDS>,
+    pub reach: Matrix<WORDS>,
+    pub paths: Matrix<WORDS>,
     pub into: [u64; 64],
-    pub paths: [u64; WORDS],
     pub outgoing: Chains<{ Layout::ITEM_ROOM }, NEEDS>,
     pub incoming: Chains<{ Layout::ITEM_ROOM }, NEEDS>,
-    pub ghost sizes: { (length weak ≡ WORDS) × (length reach ≡ WORDS) × (length into ≡ 64) × (length paths ≡ WORDS) },
-    pub ghost fits: { Fits WORDS words nodes },
+    pub ghost size: { length into ≡ 64 },
+    pub ghost same: { (reach.words ≡ weak.words) × (paths.words ≡ weak.words) },
+    pub ghost fits: { Fits WORDS weak.words nodes },
     pub ghost bounds: { (WORDS ≤ 65536) × (NEEDS < 65536) },
 }
 
 // Notes the weight of the pair (x, y): whether it is Maybe.
-fn set_weight(weak: &mut [u64], words: usize, x: usize, y: usize, weight: WeightByte)
-    requires { Place words x y weak.old }
-    ensures { Stored (x * (64 * words) + y) (eqb weight.0 1) weak.old weak.new }
+fn set_weight<const WORDS: usize>(weak: &mut Matrix<WORDS>, x: usize, y: usize, weight: WeightByte)
+    requires { Place weak.old.words x y weak.old.cells }
+    ensures words { weak.new.words ≡ weak.old.words }
+    ensures stored { Stored (x * (64 * weak.old.words) + y) (eqb weight.0 1) weak.old.cells weak.new.cells }
 {
-    let width = 64 * words;
     if weight.is_maybe() {
-        bits::row_insert(weak, x * width + y);
+        weak.insert(x, y);
     } else {
-        bits::row_remove(weak, x * width + y);
+        weak.remove(x, y);
     }
 }
 
@@ -61,12 +62,11 @@ impl<const WORDS: usize, const NEEDS: usize> Graph<WORDS, NEEDS> {
     {
         Self {
             nodes: 0,
-            words: 0,
             pairs: Pairs::new(),
-            weak: [0; WORDS],
-            reach: [0; WORDS],
+            weak: Matrix::new(),
+            reach: Matrix::new(),
+            paths: Matrix::new(),
             into: [0; 64],
-            paths: [0; WORDS],
             outgoing: Chains::new(),
             incoming: Chains::new(),
         }
@@ -76,7 +76,7 @@ impl<const WORDS: usize, const NEEDS: usize> Graph<WORDS, NEEDS> {
     pub fn clear(&mut self, nodes: usize)
         requires { Fits WORDS (words_for nodes) nodes }
         ensures nodes { self.new.nodes ≡ nodes }
-        ensures words { self.new.words ≡ words_for nodes }
+        ensures words { self.new.weak.words ≡ words_for nodes }
         ensures none { self.new.pairs.count ≡ 0 }
         ensures cleared { Cleared (words_for nodes) nodes (matrices_of self.old) (matrices_of self.new) }
         ensures from { self.new.pairs.from ≡ self.old.pairs.from }
@@ -85,13 +85,11 @@ impl<const WORDS: usize, const NEEDS: usize> Graph<WORDS, NEEDS> {
         ensures incoming { self.new.incoming ≡ self.old.incoming }
     {
         let words = rows::words_of(nodes);
-        let size = nodes * words;
         self.nodes = nodes;
-        self.words = words;
-        self.pairs.clear(size);
-        rows::clear_words(&mut self.weak, size);
-        rows::clear_words(&mut self.reach, size);
-        rows::clear_words(&mut self.paths, size);
+        self.pairs.clear(nodes * words);
+        self.weak.clear(nodes, words);
+        self.reach.clear(nodes, words);
+        self.paths.clear(nodes, words);
         if words == 1 {
             self.into = [0; 64];
         }
@@ -99,27 +97,24 @@ impl<const WORDS: usize, const NEEDS: usize> Graph<WORDS, NEEDS> {
 
     // Adds the need x to y (add_edge).
     pub fn add_edge(&mut self, x: NodeId, y: NodeId, weight: WeightByte)
-        requires { EdgeRoom self.old.words self.old.nodes x.0 y.0 (matrices_of self.old) self.old.pairs.from self.old.pairs.to self.old.pairs.count }
-        ensures added { EdgeAdded self.old.words self.old.nodes x.0 y.0 weight.0 (matrices_of self.old) self.old.pairs.from
+        requires { EdgeRoom self.old.weak.words self.old.nodes x.0 y.0 (matrices_of self.old) self.old.pairs.from self.old.pairs.to self.old.pairs.count }
+        ensures added { EdgeAdded self.old.weak.words self.old.nodes x.0 y.0 weight.0 (matrices_of self.old) self.old.pairs.from
             self.old.pairs.to self.old.pairs.count (matrices_of self.new) self.new.pairs.from
             self.new.pairs.to self.new.pairs.count }
         ensures nodes { self.new.nodes ≡ self.old.nodes }
-        ensures words { self.new.words ≡ self.old.words }
+        ensures words { self.new.weak.words ≡ self.old.weak.words }
         ensures outgoing { self.new.outgoing ≡ self.old.outgoing }
         ensures incoming { self.new.incoming ≡ self.old.incoming }
     {
         let a = usize::from(x);
         let b = usize::from(y);
-        let words = self.words;
-        let nodes = self.nodes;
-        self.pairs.add(64 * words, x.0, y.0);
-        set_weight(&mut self.weak, words, a, b, weight);
+        self.pairs.add(64 * self.weak.words, x.0, y.0);
+        set_weight(&mut self.weak, a, b, weight);
         transitives::insert_transitives(
             &mut self.paths,
             &mut self.reach,
             &mut self.into,
-            words,
-            nodes,
+            self.nodes,
             a,
             b,
         );
@@ -145,13 +140,13 @@ impl<const WORDS: usize, const NEEDS: usize> Graph<WORDS, NEEDS> {
         requires { Fits WORDS (words_for nodes) nodes }
         ensures laid { Laid [] self.new }
         ensures nodes { self.new.nodes ≡ nodes }
-        ensures words { self.new.words ≡ words_for nodes }
+        ensures words { self.new.weak.words ≡ words_for nodes }
     {
-        let words = rows::words_of(nodes);
+        let row_words = rows::words_of(nodes);
         self.nodes = nodes;
-        self.words = words;
-        rows::clear_words(&mut self.weak, nodes * words);
-        rows::clear_words(&mut self.paths, nodes * words);
+        self.weak.clear(nodes, row_words);
+        self.reach.words = row_words;
+        self.paths.clear(nodes, row_words);
         self.outgoing.clear(nodes);
         self.incoming.clear(nodes);
     }
@@ -167,7 +162,7 @@ impl<const WORDS: usize, const NEEDS: usize> Graph<WORDS, NEEDS> {
         }
     }
 
-    // The dependants of x, in the order of their first rows. A direction as a parameter, as neighbors_directed has, would be a test at each call.
+    // The dependants of x, in the order of their first rows. One method with a direction, as neighbors_directed, would test it at each call.
     pub fn dependants(&self, x: NodeId) -> Neighbours<'_>
         requires { x.0 < item_limit }
         ensures { (needs : List Need) → NeighboursLaid needs self.now → x.0 < self.now.nodes → nodes_left result ≡ dependants_of needs x.0 }
@@ -183,7 +178,7 @@ impl<const WORDS: usize, const NEEDS: usize> Graph<WORDS, NEEDS> {
         requires { (a.0 < self.now.nodes) × (b.0 < self.now.nodes) }
         ensures { (needs : List Need) → Laid needs self.now → result ≡ in_paths (reverse needs) a.0 b.0 }
     {
-        rows::holds(&self.paths, self.words, usize::from(a), usize::from(b))
+        self.paths.holds(usize::from(a), usize::from(b))
     }
 
     // Whether the weight of the pair (x, y) is Maybe.
@@ -191,6 +186,6 @@ impl<const WORDS: usize, const NEEDS: usize> Graph<WORDS, NEEDS> {
         requires { (x.0 < self.now.nodes) × (y.0 < self.now.nodes) }
         ensures { (needs : List Need) → Laid needs self.now → result ≡ is_maybe (reverse needs) x.0 y.0 }
     {
-        rows::holds(&self.weak, self.words, usize::from(x), usize::from(y))
+        self.weak.holds(usize::from(x), usize::from(y))
     }
 }

@@ -30,7 +30,7 @@ pub startable : {WORDS NEEDS entries : ℕ} {g walked : Group} {group : GroupArr
     → Startable g group entries
 startable {group = group} h fits =
     let l = h.laid in
-    let rows = ap (λ (n : ℕ). n * group.graph.words) (sym l.nodes-is) in
+    let rows = ap (λ (n : ℕ). n * group.graph.weak.words) (sym l.nodes-is) in
     record {
       listable = h.listable;
       count-is = l.count-is;

@@ -98,7 +98,7 @@ impl<const WORDS: usize, const NEEDS: usize, const ENTRIES: usize> Sort<WORDS, N
     {
         let split = &self.group.split;
         for (i, &x) in self.arrays.order[..split.count].iter().enumerate() {
-            out[at + i] = split.rows[x as usize] as u8;
+            out[at + i] = split.rows[usize::from(x)] as u8;
         }
         at + split.count
     }

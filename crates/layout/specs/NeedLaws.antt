@@ -61,13 +61,13 @@ module _ (rows : List ℕ) (need : NeedRow) (graph : List Need) where
   -- both ends have numbers
   module _ {x y : NodeId} (first : NumberedAs rows need.dependant.0 (Some x)) (second : NumberedAs rows need.dependency.0 (Some y))
       {WORDS NEEDS : ℕ} {s : Split} {g : Graph WORDS NEEDS} (size : length rows ≡ s.count) (room : NeedRoom graph s g) where
-    pub need-room : EdgeRoom g.words g.nodes x.0 y.0 (matrices_of g) g.pairs.from g.pairs.to g.pairs.count
+    pub need-room : EdgeRoom g.weak.words g.nodes x.0 y.0 (matrices_of g) g.pairs.from g.pairs.to g.pairs.count
     need-room =
         edge-room room.shows.shown x.0 y.0 (omega (arith, (a-number first).2, room.shows.nodes-are)) (omega (arith, (a-number second).2, room.shows.nodes-are))
         (omega (arith, room.room, g.pairs.sizes)) (omega (arith, room.room, g.pairs.sizes))
 
-    pub need-shown : {h : Graph WORDS NEEDS} → h.nodes ≡ g.nodes → h.words ≡ g.words
-        → EdgeAdded g.words g.nodes x.0 y.0 need.weight.0 (matrices_of g) g.pairs.from g.pairs.to g.pairs.count (matrices_of h) h.pairs.from h.pairs.to h.pairs.count
+    pub need-shown : {h : Graph WORDS NEEDS} → h.nodes ≡ g.nodes → h.weak.words ≡ g.weak.words
+        → EdgeAdded g.weak.words g.nodes x.0 y.0 need.weight.0 (matrices_of g) g.pairs.from g.pairs.to g.pairs.count (matrices_of h) h.pairs.from h.pairs.to h.pairs.count
         → Shows (add_need rows graph (need_in need)) s h
     unfolding is_among numbered
     need-shown nodes words added =
@@ -96,7 +96,7 @@ adds-all rows graph (n ∷ needs) = adds-all rows (add_need rows graph n) needs 
 pub none-along : {section next : List ℕ} {entry : ℕ} {own : List Need} → NeedsAlong section next entry own → entry ≡ 0 → own ≡ []
 none-along {section} {next} {entry} a e = sym a.along ∙ ap (map (need_at section)) (places-none next entry e)
 
-pub shows_none : {WORDS NEEDS : ℕ} {s : Split} {g : Graph WORDS NEEDS} → g.nodes ≡ s.count → g.words ≡ words_for s.count → g.pairs.count ≡ 0
+pub shows_none : {WORDS NEEDS : ℕ} {s : Split} {g : Graph WORDS NEEDS} → g.nodes ≡ s.count → g.weak.words ≡ words_for s.count → g.pairs.count ≡ 0
     → GraphShows (words_for s.count) s.count [] (matrices_of g) g.pairs.from g.pairs.to 0 → Shows [] s g
 shows_none nodes words none shown = record { nodes-are = nodes; words-are = words; shown = rw (words, nodes, none) shown }
 

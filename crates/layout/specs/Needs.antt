@@ -36,7 +36,7 @@ pub record LayRoom (WORDS NEEDS n : ℕ) (needs : List Need) : Type 0 where
 -- A graph shows needs of a split's items.
 pub record Shows {WORDS NEEDS : ℕ} (needs : List Need) (s : Split) (g : Graph WORDS NEEDS) : Type 0 where
   pub nodes-are : g.nodes ≡ s.count
-  pub words-are : g.words ≡ words_for s.count
+  pub words-are : g.weak.words ≡ words_for s.count
   pub shown : Shown needs g
 
 -- And there is room for one more pair.

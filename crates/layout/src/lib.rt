@@ -119,7 +119,7 @@ impl<const WORDS: usize, const NEEDS: usize> Group<WORDS, NEEDS> {
         ensures laid { (all : List Need) → NeedsAlong needs.now own.entry.next.now own.entry.entry all → LayRoom WORDS NEEDS self.old.split.count all
             → Laid (needs_among (take self.old.split.count self.old.split.rows) all) self.new.graph }
         ensures nodes { self.new.graph.nodes ≡ self.old.split.count }
-        ensures words { self.new.graph.words ≡ words_for self.old.split.count }
+        ensures words { self.new.graph.weak.words ≡ words_for self.old.split.count }
         ensures split { self.new.split ≡ self.old.split }
         ensures numbers { self.new.numbers ≡ self.old.numbers }
     {

@@ -4,8 +4,8 @@ ghost use Rattle.lists.specs.Pairs.{Room, Added};
 
 use super::bits;
 
-// A row of bits for each first number says which pairs stand there, and both numbers of each pair. These are two arrays and no `ArrayVec` of pairs, since
-// `Chains::link` takes one of them as its keys.
+// A row of bits for each first number says which pairs stand there, and both numbers of each pair. These are two arrays with one count:
+// `Chains::link` takes one of them as its keys, and an `ArrayVec` for each would store the count twice.
 #[derive(Drop)]
 pub struct Pairs<const WORDS: usize, const PLACES: usize> {
     pub seen: [u64; WORDS],

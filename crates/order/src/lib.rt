@@ -74,7 +74,7 @@ impl<'a> SortTurns<'a> {
         }
     }
 
-    // The turns of the groups from one on, some of them sorted. A project of usual size gets by with small arrays, which are quicker to make; where a list
+    // The turns of the groups from one on, some of them sorted. A project of usual size needs only small arrays, which are quicker to make; where a list
     // may not fit its small array, the turns go on with large ones.
     fn sort_rest(
         self,
@@ -99,7 +99,8 @@ impl<'a> SortTurns<'a> {
     }
 }
 
-// Sorts the groups in turn and writes the rows of their kept items to `out`. Where it stops, what `out` holds is left free.
+// Sorts the groups in turn and writes the rows of their kept items to `out`. Sections and groups are parts of larger arrays, handed on as they stand, with
+// how many groups there are. Where it stops, what `out` holds is left free.
 pub fn sort_groups(
     items: &[u8],
     imports: &[u8],

@@ -93,7 +93,7 @@ pub struct SortTurns<'a> {
 }
 
 impl<'a> SortTurns<'a> {
-    // Chains the needs and takes the turns from one on. The arrays stand in a stack frame of their own, so that a project that gets by with small ones
+    // Chains the needs and takes the turns from one on. The arrays stand in a stack frame of their own, so that a project that needs only small ones
     // makes no large ones.
     #[inline(never)]
     pub fn take<'b, const WORDS: usize, const NEEDS: usize, const ENTRIES: usize>(

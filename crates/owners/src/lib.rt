@@ -28,6 +28,7 @@ impl Owners {
         let mut owners = Owners {
             array: [None; Layout::MODULE_ROOM],
         };
+        // Counted down by hand: of a `zip` it would have to be shown that both its iterators end at once.
         let mut behind = count;
         for members in Lists::new(bytes) {
             behind -= 1;

@@ -91,10 +91,10 @@ impl Layout {
     pub const NEED_ROOM: usize = Self::NEEDS as usize;
 }
 
-// Why bytes are turned down, in the table's order.
+// Why bytes are turned down, by the numbers of the table.
 #[derive(Clone, Copy, PartialEq, Eq, Debug)]
 pub enum Refusal {
-    Stub,
+    Stub = 1,
     Foreign,
     Misplaced,
     Ragged,
@@ -108,19 +108,8 @@ pub enum Refusal {
 impl From<Refusal> for u32 {
     ghost from_gives = { λ r n. n ≡ number_of r };
 
-    // The number of the table.
     fn from(r: Refusal) -> u32 {
-        match r {
-            Refusal::Stub => 1,
-            Refusal::Foreign => 2,
-            Refusal::Misplaced => 3,
-            Refusal::Ragged => 4,
-            Refusal::Outsize => 5,
-            Refusal::BadItem => 6,
-            Refusal::BadImport => 7,
-            Refusal::BadCircle => 8,
-            Refusal::BadNeed => 9,
-        }
+        r as u32
     }
 }
 

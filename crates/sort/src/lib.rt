@@ -30,10 +30,10 @@ use walks::Stop;
 // The visits that an allowance of 0 stands for.
 const USUAL_ALLOWANCE: u32 = 20000;
 
-// Why an accepted project is not answered, or an entry makes no call.
+// Why an accepted project is not answered, or an entry makes no call, by the numbers of the table.
 #[derive(Clone, Copy, PartialEq, Eq, Debug)]
 enum Refusal {
-    ShortReply,
+    ShortReply = 10,
     Spent,
     Full,
     ShortReport,
@@ -42,14 +42,8 @@ enum Refusal {
 impl From<Refusal> for u32 {
     ghost from_gives = { λ r n. n ≡ number_of r };
 
-    // The number of the table.
     fn from(r: Refusal) -> u32 {
-        match r {
-            Refusal::ShortReply => 10,
-            Refusal::Spent => 11,
-            Refusal::Full => 12,
-            Refusal::ShortReport => 13,
-        }
+        r as u32
     }
 }
 
@@ -64,7 +58,7 @@ fn stopped(stop: Stop<Infallible>) -> (Refusal, u32)
     }
 }
 
-// What a call returns.
+// What a call returns: numbers, as a host gets them.
 #[derive(Clone, Copy, Default)]
 pub struct Numbers {
     pub answer: u32,

@@ -26,7 +26,7 @@ cleared-bit n {words} rest e k h =
 
 -- the words of the rows of pairs
 abbrev pair_words : {WORDS NEEDS : ℕ} → GroupArrays WORDS NEEDS → ℕ
-pair_words group = group.split.count * group.graph.words
+pair_words group = group.split.count * group.graph.weak.words
 
 module _ {WORDS NEEDS : ℕ} {g : Group} {group : GroupArrays WORDS NEEDS} where
   pub started : {ENTRIES : ℕ} (a : Arrays WORDS ENTRIES) → Startable g group ENTRIES → (a' : Arrays WORDS ENTRIES) {placed moved : List ℕ} {end : ℕ}
@@ -35,7 +35,7 @@ module _ {WORDS NEEDS : ℕ} {g : Group} {group : GroupArrays WORDS NEEDS} where
   unfolding item_start item_list placed_of moved_of has_moved elem any stack
   started a h a' {placed} {moved} p placed-none m moved-none l =
       let most : size g ≤ item_limit = omega (arith, h.count-is, group.split.counts) in
-      let count : size g * group.graph.words ≡ pair_words group = ap (λ (n : ℕ). n * group.graph.words) (sym h.count-is) in
+      let count : size g * group.graph.weak.words ≡ pair_words group = ap (λ (n : ℕ). n * group.graph.weak.words) (sym h.count-is) in
       let taken : length (take (pair_words group) a.moved) ≡ pair_words group =
       omega (arith, length-take (pair_words group) a.moved, count, h.rows-room, a.moved_size) in
       record {

@@ -68,7 +68,7 @@ pub record Laid {WORDS NEEDS : ℕ} (g : Group) (group : GroupArrays WORDS NEEDS
 
 -- the bits of a row
 abbrev pub width : {WORDS NEEDS : ℕ} → GroupArrays WORDS NEEDS → ℕ
-width group = 64 * group.graph.words
+width group = 64 * group.graph.weak.words
 
 -- What visits rely on: the group laid out, and a state that its walk can be in.
 pub record Walking {WORDS NEEDS ENTRIES : ℕ} (g : Group) (group : GroupArrays WORDS NEEDS) (a : Arrays WORDS ENTRIES) (w : ItemWalk) (s : ItemState) : Type 0 where
@@ -81,7 +81,7 @@ pub record Startable {WORDS NEEDS : ℕ} (g : Group) (group : GroupArrays WORDS 
   pub listable : Listable g group.split
   pub count-is : group.split.count ≡ size g
   pub within : size g ≤ width group
-  pub rows-room : size g * group.graph.words ≤ WORDS
+  pub rows-room : size g * group.graph.weak.words ≤ WORDS
   pub first-most : length (first_list g) ≤ item_list_limit
   pub room : length (first_list g) ≤ entries
 

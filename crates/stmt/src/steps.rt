@@ -71,7 +71,7 @@ impl<const WORDS: usize, const ENTRIES: usize> Arrays<WORDS, ENTRIES> {
         if x.kind.is_injected() || !group.graph.has_path(d, x.id) {
             return false;
         }
-        self.note(group.graph.words, x.id, d)
+        self.note(group.graph.weak.words, x.id, d)
     }
 
     // Whether a dependency d of x that is not skipped stays: it is not placed, and step 3 does not drop it.
@@ -168,7 +168,7 @@ impl<const WORDS: usize, const ENTRIES: usize> Arrays<WORDS, ENTRIES> {
         ensures { (g : Group) (w : ItemWalk) (s : ItemState) → Shows (size g) (64 * words) self.now w s → Ranged g x
             → First x.id.0 (preceding_of g (placed_of s) (moved_of s) x.id.0) result }
     {
-        // No `find`: its closure would need clauses of its own.
+        // No `find`: it was tried, and that its closure may be called stayed open.
         for i in x.low..x.id.0 {
             let p = NodeId(i);
             if !self.has_placed(p) && !self.has_moved(words, x.id, p) {
@@ -236,7 +236,7 @@ impl<const WORDS: usize, const ENTRIES: usize> Arrays<WORDS, ENTRIES> {
             (after_preceding g x.id.0 rest items pairs (preceding_of g items pairs x.id.0)) result }
         ensures rest { self.new.«open» ≡ self.old.«open» }
     {
-        let words = group.graph.words;
+        let words = group.graph.weak.words;
         let Some(p) = self.preceding(words, x) else {
             return Outcome::Placed(self.place(w.passed(), x.id));
         };

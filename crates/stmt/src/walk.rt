@@ -36,7 +36,7 @@ impl ItemWalk {
         ensures { (g : Group) → Startable g group.now ENTRIES → Shows (size g) (width group.now) arrays.new result (item_start g) }
     {
         arrays.placed.fill(0);
-        arrays.moved[..group.split.count * group.graph.words].fill(0);
+        arrays.moved[..group.split.count * group.graph.weak.words].fill(0);
         let end = group.split.first_list(&mut arrays.list);
         Self { end, placed: 0 }
     }

@@ -37,7 +37,7 @@ impl<C> Stop<C> {
     }
 }
 
-// How many visits a run may make, and how many have been made before.
+// How many visits are allowed, and how many of them have been made before a run.
 #[derive(Clone, Copy)]
 pub struct Allowance {
     pub visits: u32,

@@ -6,7 +6,8 @@ use Rattle.graph.proofs.Graph.add_edge.Goals as goal
 pub returns-clause-added : goal.returns-clause-added
 returns-clause-added g c =
     let old = c.args.self.now in
-    let ways = c.insert_transitives.auto in
+    let call = c.insert_transitives.new in
     edge-added c.args.weight.0 c.requires
-    (space old.fits old.bounds.0 c.add.new.self.sizes.0 (c.set_weight.auto.weak ∙ old.sizes.0) (ways.reach ∙ old.sizes.1) (ways.into ∙ old.sizes.2) (ways.paths ∙ old.sizes.3))
-    c.add.ensures (rw (c.from-a.ensures, c.from-b.ensures) at c.set_weight.ensures) (rw (c.from-a.ensures, c.from-b.ensures) at c.insert_transitives.ensures)
+    (space old.fits old.bounds.0 c.add.new.self.sizes.0 c.set_weight.new.weak.size call.reach.size (c.insert_transitives.auto.into ∙ old.size) call.paths.size)
+    c.add.ensures (rw (c.from-a.ensures, c.from-b.ensures) at c.set_weight.ensures.stored)
+    (rw (c.from-a.ensures, c.from-b.ensures, old.same.0) at c.insert_transitives.ensures.added)

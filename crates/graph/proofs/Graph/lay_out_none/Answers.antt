@@ -13,9 +13,9 @@ returns-clause-laid g c =
     record {
       neighbours =
           record {
-            dependencies = none-linked old.pairs.to old.outgoing c.clear.new.self c.clear.ensures.heads;
-            dependants = none-linked old.pairs.from old.incoming c.clear-2.new.self c.clear-2.ensures.heads;
+            dependencies = none-linked old.pairs.to old.outgoing c.clear-3.new.self c.clear-3.ensures.heads;
+            dependants = none-linked old.pairs.from old.incoming c.clear-4.new.self c.clear-4.ensures.heads;
           };
-      paths-shown = rw c.clear_words-2.ensures (rows-cleared _ c.args.nodes old.paths);
-      weak-shown = rw c.clear_words.ensures (rows-cleared _ c.args.nodes old.weak);
+      paths-shown = rw (c.clear.ensures.words, c.clear-2.ensures.cells) (rows-cleared _ c.args.nodes old.paths.cells);
+      weak-shown = rw (c.clear.ensures.words, c.clear.ensures.cells) (rows-cleared _ c.args.nodes old.weak.cells);
     }

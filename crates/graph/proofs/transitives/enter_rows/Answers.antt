@@ -3,8 +3,11 @@ use Rattle.graph.specs.RowLaws.{row_within, row_copied}
 use Rattle.graph.specs.ReachLaws.{way-entered}
 use Rattle.graph.proofs.transitives.enter_rows.Goals as goal
 
-pub returns : goal.returns
-returns c =
-    let there = row_within c.requires.reach-rows c.args.y c.requires.second in
-    let bits = row_copied c.args.words c.args.reach.now _ c.args.y there c.copy_row.ensures in
-    way-entered c.requires bits c.row_insert.ensures c.enter_reaching.ensures c.enter_own.ensures
+pub returns-clause-entered : goal.returns-clause-entered
+returns-clause-entered g c =
+    let room = c.requires.room in
+    let reach = c.args.reach.now in
+    let there = row_within room.reach-rows c.args.y room.second in
+    let bits = row_copied reach.words reach.cells _ c.args.y there c.copy_row.ensures in
+    way-entered room bits c.row_insert.ensures c.enter_reaching.ensures.entered (rw c.enter_reaching.ensures.words.1 at c.join_row.ensures.joined)
+    (rw (c.enter_reaching.ensures.words.0, c.requires.same) at c.enter_own.ensures.joined)

@@ -1,14 +1,18 @@
 -- `graph::transitives::insert_transitives` meets its contract. Assumes nothing.
+use Rattle.std.proofs.Common.{sym, ◌∙◌}
 use Rattle.graph.specs.ReachLaws.{way-old, way-new}
 use Rattle.graph.proofs.transitives.insert_transitives.Goals as goal
 
-pub returns-then-holds : goal.returns-then-holds
-returns-then-holds c = way-old c.requires c.holds.ensures c.if-holds.true
+pub returns-then-holds-clause-added : goal.returns-then-holds-clause-added
+returns-then-holds-clause-added g c = way-old c.requires.room (rw c.requires.same at c.holds.ensures) c.if-holds.true
 
-pub returns-then-words-eq1 : goal.returns-then-words-eq1
-returns-then-words-eq1 c =
-    let both = c.enter_words.ensures c.args.n (rw c.if-words-eq1.true at c.requires) in
-    way-new c.requires c.holds.ensures c.if-holds.false (rw c.if-words-eq1.true both.0) (λ e. both.1)
+pub returns-then-paths-eq1-clause-added : goal.returns-then-paths-eq1-clause-added
+returns-then-paths-eq1-clause-added g c =
+    let one = sym c.requires.same ∙ c.if-paths-eq1.true in
+    let both = c.enter_words.ensures c.args.n (rw one at c.requires.room) in
+    way-new c.requires.room (rw c.requires.same at c.holds.ensures) c.if-holds.false (rw one both.0) (λ e. both.1)
 
-pub returns-else-words-eq1 : goal.returns-else-words-eq1
-returns-else-words-eq1 c = way-new c.requires c.holds.ensures c.if-holds.false c.enter_rows.ensures (λ e. absurd (c.if-words-eq1.false e))
+pub returns-else-paths-eq1-clause-added : goal.returns-else-paths-eq1-clause-added
+returns-else-paths-eq1-clause-added g c =
+    way-new c.requires.room (rw c.requires.same at c.holds.ensures) c.if-holds.false c.enter_rows.ensures.entered
+    (λ e. absurd (c.if-paths-eq1.false (c.requires.same ∙ e)))

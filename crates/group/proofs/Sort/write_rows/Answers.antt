@@ -17,4 +17,4 @@ loop-i-preserved g c =
     let more =
     written-more s.group.split.rows s.arrays.order l.out s.group.split.count c.args.at l.i (omega (arith, c.loop-i-test.true, taken s))
     (omega (arith, s.group.split.counts, s.arrays.order_size)) in
-    rw (← more) l.invariant
+    rw (c.from.ensures, ← more) l.invariant
