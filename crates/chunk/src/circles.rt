@@ -17,11 +17,25 @@ struct Following {
     noted: u64,
 }
 
-// Whether a list holds m.
-fn holds(list: &[u8], m: ModuleId) -> bool
+// The most members of a list that is looked through one by one.
+const SHORT: usize = 4;
+
+// Whether a list of any length holds m. In a function of its own, so that the library's search, which is long, does not keep `holds` from being inlined.
+#[inline(never)]
+fn contains(list: &[u8], m: ModuleId) -> bool
     ensures { result ≡ elem m.0 list.now }
 {
     list.contains(&m.0)
+}
+
+// Whether a list holds m. Most lists are short: for these a loop is quicker than the library's search, which is quicker for long ones.
+fn holds(list: &[u8], m: ModuleId) -> bool
+    ensures { result ≡ elem m.0 list.now }
+{
+    if SHORT < list.len() {
+        return contains(list, m);
+    }
+    list.iter().any(|&member| member == m.0)
 }
 
 // Gathers the members of every list of the section that holds m.
