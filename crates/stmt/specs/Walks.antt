@@ -70,6 +70,10 @@ pub record Laid {WORDS NEEDS : ℕ} (g : Group) (group : GroupArrays WORDS NEEDS
 abbrev pub width : {WORDS NEEDS : ℕ} → GroupArrays WORDS NEEDS → ℕ
 width group = 64 * group.graph.weak.words
 
+-- the words of the rows of pairs
+abbrev pub pair_words : {WORDS NEEDS : ℕ} → GroupArrays WORDS NEEDS → ℕ
+pair_words group = group.split.count * group.graph.weak.words
+
 -- What visits rely on: the group laid out, and a state that its walk can be in.
 pub record Walking {WORDS NEEDS ENTRIES : ℕ} (g : Group) (group : GroupArrays WORDS NEEDS) (a : Arrays WORDS ENTRIES) (w : ItemWalk) (s : ItemState) : Type 0 where
   pub laid : Laid g group
@@ -102,6 +106,10 @@ Fits most room = (k : ℕ) → k ≤ item_list_limit → k ≤ most → k ≤ ro
 -- n dependencies.
 abbrev pub Room : ℕ → ℕ → ℕ → Type 0
 Room n room end = Fits (end + n + 1) room
+
+-- One more visit may leave more entries than there is room for, and a list may have more.
+abbrev pub Short : ℕ → ℕ → ℕ → Type 0
+Short n room end = (room < item_list_limit) × (room < end + n + 1)
 
 -- What a visit comes to, t being the state after it.
 abbrev pub Comes : {WORDS ENTRIES : ℕ} → ℕ → ℕ → Arrays WORDS ENTRIES → List ℕ → ItemState → Outcome ItemWalk → Type 0

@@ -1,12 +1,12 @@
 // The item walk (iter): its state, one visit, and a run of visits.
-ghost use Rattle.std.specs.Prelude.{ℕ, ◌-◌, ◌≤◌, ◌<◌, ◌≡◌};
+ghost use Rattle.std.specs.Prelude.{ℕ, ◌-◌, ◌≤◌, ◌<◌, ◌≡◌, false, drop};
 ghost use Rattle.rules.specs.Items.{Group, ItemState, item_walk, item_start, placed_of};
 ghost use Rattle.rules.specs.Walk.{run as runs};
 ghost use Rattle.rules.specs.Calls.{item_list_limit};
 ghost use Rattle.laws.specs.Splits.{size};
 ghost use Rattle.lists.specs.Stacks.{stack};
-ghost use Rattle.walks.specs.Runs.{Ran};
-ghost use Rattle.stmt.specs.Walks.{width, Shows, Walking, Startable, SameVisits, Room, IsAt};
+ghost use Rattle.walks.specs.Runs.{Ran, CrowdedAt};
+ghost use Rattle.stmt.specs.Walks.{width, pair_words, Shows, Walking, Startable, SameVisits, Room, Short, IsAt};
 ghost use Rattle.stmt.specs.WalkLaws.{list-within};
 
 use crate::arrays::Arrays;
@@ -33,7 +33,10 @@ impl ItemWalk {
         arrays: &mut Arrays<WORDS, ENTRIES>,
     ) -> Self
         requires { (g : Group) × Startable g group.now ENTRIES }
-        ensures { (g : Group) → Startable g group.now ENTRIES → Shows (size g) (width group.now) arrays.new result (item_start g) }
+        ensures shows { (g : Group) → Startable g group.now ENTRIES → Shows (size g) (width group.now) arrays.new result (item_start g) }
+        ensures rest { (arrays.new.«open» ≡ arrays.old.«open») × (arrays.new.order ≡ arrays.old.order) }
+        ensures moved_beyond { drop (pair_words group.now) arrays.new.moved ≡ drop (pair_words group.now) arrays.old.moved }
+        ensures list_beyond { drop result.end arrays.new.list ≡ drop result.end arrays.old.list }
     {
         arrays.placed.fill(0);
         arrays.moved[..group.split.count * group.graph.weak.words].fill(0);
@@ -75,7 +78,7 @@ impl<const WORDS: usize, const NEEDS: usize, const ENTRIES: usize> Visits<Arrays
 
     ghost HasRoom = { λ group arrays w. Room group.split.count ENTRIES w.end };
 
-    ghost Crowds = { λ walked c. ENTRIES < item_list_limit };
+    ghost Crowds = { λ walked group arrays w c. Short group.split.count ENTRIES w.end };
 
     // All are placed.
     fn has_ended(&self, _arrays: &Arrays<WORDS, ENTRIES>, w: ItemWalk) -> bool {
@@ -108,7 +111,9 @@ pub fn run<const WORDS: usize, const NEEDS: usize, const ENTRIES: usize>(
     requires { (g : Group) × (s : ItemState) × Walking g group.now arrays.old start s }
     ensures { (g walked : Group) (s : ItemState) → SameVisits g walked → Walking g group.now arrays.old start s
         → Ran (runs (item_walk walked) item_list_limit (allowance.visits - allowance.made) allowance.made s)
-        (λ w t. stack arrays.new.order group.now.split.count ≡ placed_of t) (λ c. ENTRIES < item_list_limit) result }
+        (λ w t. stack arrays.new.order group.now.split.count ≡ placed_of t)
+        (CrowdedAt (λ w t. IsAt walked group.now arrays.new w t × ((item_walk walked).ended t ≡ false))
+        (λ w c. Short group.now.split.count ENTRIES w.end)) result }
 {
     walks::run(group, arrays, start, allowance)
 }

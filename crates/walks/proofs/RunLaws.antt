@@ -7,7 +7,7 @@ use Rattle.walks.specs.declared.Outcome.{Outcome}
 use Rattle.walks.specs.declared.Outcome.TheVariants.{WentOn, Placed}
 use Rattle.walks.specs.declared.Stop.{Stop as Stopped}
 use Rattle.walks.specs.declared.Stop.TheVariants.{Spent, Full, Crowded}
-use Rattle.walks.specs.Runs.{Came, went_on, placed_one, was_full, Ran, has_finished, was_spent, list_was_full, was_crowded, Running}
+use Rattle.walks.specs.Runs.{Came, went_on, placed_one, was_full, Ran, has_finished, was_spent, list_was_full, was_crowded, CrowdedAt, Running}
 
 -- What a visit comes to, by its outcome.
 module _ {Spec Piece State : Type 0} {limit : ℕ} {list : Spec → List ℕ} {placed : Spec → List Piece} {shows : State → Spec → Type 0}
@@ -78,8 +78,12 @@ module _ {Spec State : Type 0} {walk : Walk Spec} {limit : ℕ} {shows : State �
       turned within c o = let h = shown-after c o in goes_on (within (walk.visit r.state) h) h
 
 -- What there was no room for is handed on.
-module _ {Spec State C : Type 0} {stop : Stop Spec} {shows : State → Spec → Type 0} {crowds : C → Type 0} {d : Stopped C} where
-  pub crowds-on : {U : Type 0} (Room : U → Type 0) (room : Result U C) (mapped : Result U (Stopped C)) → MatchResult room Room crowds
-      → MatchResult room (λ x. mapped ≡ Ok x) (λ c. IsErrAnd mapped (λ d. d ≡ Crowded c)) → mapped ≡ Err d → Ran stop shows crowds (Err d)
+module _ {Spec State C : Type 0} {stop : Stop Spec} {ending shows : State → Spec → Type 0} {crowds : State → C → Type 0} {d : Stopped C}
+    (w : State) (s : Spec) (h : shows w s) where
+  pub crowds-on : {U : Type 0} (Room : U → Type 0) (room : Result U C) (mapped : Result U (Stopped C)) → MatchResult room Room (crowds w)
+      → MatchResult room (λ x. mapped ≡ Ok x) (λ c. IsErrAnd mapped (λ d. d ≡ Crowded c)) → mapped ≡ Err d
+      → Ran stop ending (CrowdedAt shows crowds) (Err d)
   crowds-on Room (Ok x) mapped a b e = absurd (let f : Ok x ≡ Err d = sym b ∙ e in cc)
-  crowds-on Room (Err c) mapped a b e = let f : d ≡ Crowded c = rw e at b in rw f (was_crowded a)
+  crowds-on Room (Err c) mapped a b e =
+      let f : d ≡ Crowded c = rw e at b in
+      rw f (was_crowded (record { numbers = w; state = s; shown = h; crowded = a }))

@@ -24,6 +24,13 @@ pub data Ran {Spec State C : Type 0} (stop : Stopped Spec) (shows : State → Sp
   list_was_full : {n : ℕ} → stop ≡ full n → Ran stop shows crowds (Err (Full n))
   was_crowded : {c : C} → crowds c → Ran stop shows crowds (Err (Crowded c))
 
+-- Numbers that show a state where the next visit may need a longer array.
+pub record CrowdedAt {Spec State C : Type 0} (shows : State → Spec → Type 0) (crowds : State → C → Type 0) (c : C) : Type 0 where
+  pub numbers : State
+  pub state : Spec
+  pub shown : shows numbers state
+  pub crowded : crowds numbers c
+
 -- What a stop says where the next visit may need a longer array; else the stop.
 unfoldable pub crowded_of : {C : Type 0} → Stop C → Result C (Stop Infallible)
 crowded_of (Spent made) = Err (Spent made)

@@ -3,7 +3,7 @@
 
 ghost use Rattle.std.specs.Prelude.{ℕ, ◌-◌, ◌≤◌, ◌≡◌, true, false, List, length, MatchResult};
 ghost use Rattle.rules.specs.Walk.{Walk, run as runs};
-ghost use Rattle.walks.specs.Runs.{Came, Ran, crowded_of};
+ghost use Rattle.walks.specs.Runs.{Came, Ran, CrowdedAt, crowded_of};
 
 use std::convert::Infallible;
 
@@ -74,8 +74,8 @@ pub trait Visits<Arrays> {
     // The arrays have room for whatever one more visit may leave.
     ghost HasRoom: { Self → Arrays → Self.State → Type 0 };
 
-    // What holds of the input where there may be too little room.
-    ghost Crowds: { Input → Self.Crowded → Type 0 };
+    // What holds where there may be too little room.
+    ghost Crowds: { Input → Self → Arrays → Self.State → Self.Crowded → Type 0 };
 
     fn has_ended(&self, arrays: &Arrays, w: Self::State) -> bool
         ensures { (x : Input) (s : SpecState) → IsAt x self.now arrays.now w s → (walk x).ended s ≡ result };
@@ -83,7 +83,7 @@ pub trait Visits<Arrays> {
     fn has_room(&self, arrays: &Arrays, w: Self::State) -> Result<(), Self::Crowded>
         requires { (x : Input) × (s : SpecState) × IsAt x self.now arrays.now w s }
         ensures { (x : Input) (s : SpecState) → IsAt x self.now arrays.now w s
-            → MatchResult result (λ _. HasRoom self.now arrays.now w) (Crowds x) };
+            → MatchResult result (λ _. HasRoom self.now arrays.now w) (Crowds x self.now arrays.now w) };
 
     // One visit of a walk that has not ended.
     fn visit(&self, arrays: &mut Arrays, w: Self::State) -> Outcome<Self::State>
@@ -108,7 +108,8 @@ pub fn run<Arrays, V: Visits<Arrays>>(
     requires { (x : V.Input) × (s : V.SpecState) × V.IsAt x walk.now arrays.old start s }
     ensures { (x : V.Input) (s : V.SpecState) → V.IsAt x walk.now arrays.old start s
         → Ran (runs (V.walk x) V.limit (allowance.visits - allowance.made) allowance.made s)
-        (λ w t. V.IsAt x walk.now arrays.new w t × ((V.walk x).ended t ≡ true)) (V.Crowds x) result }
+        (λ w t. V.IsAt x walk.now arrays.new w t × ((V.walk x).ended t ≡ true))
+        (CrowdedAt (λ w t. V.IsAt x walk.now arrays.new w t × ((V.walk x).ended t ≡ false)) (V.Crowds x walk.now arrays.new)) result }
 {
     let mut w = start;
     let mut made = allowance.made;

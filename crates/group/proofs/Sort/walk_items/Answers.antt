@@ -2,6 +2,7 @@
 use Rattle.std.proofs.Common.{arith, rules}
 use Rattle.rules.specs.Items.{Group, item_start}
 use Rattle.walks.specs.Runs.{was_crowded}
+use Rattle.walks.specs.RunLaws.{ran-as}
 use Rattle.stmt.specs.Walks.{Startable}
 use Rattle.stmt.specs.WalkLaws.{walking-start}
 use Rattle.group.specs.Walking.{Walkable}
@@ -28,10 +29,12 @@ pub run-requires : goal.run-requires
 run-requires g c =
     let known = c.requires in
     let start = starts g (goal.at.run-requires g c).Else-first_len known.2 in
-    (search rules, (search rules, (known.0, item_start known.0, walking-start known.2.laid (c.new-start.ensures known.0 start))))
+    (search rules, (search rules, (known.0, item_start known.0, walking-start known.2.laid (c.new-start.ensures.shows known.0 start))))
 
 pub returns-clause-ran : goal.returns-clause-ran
 returns-clause-ran g c =
     λ h walked able.
     let start = starts g (goal.at.returns-clause-ran g c).Else-first_len able in
-    rw (← able.first) (c.run.ensures h walked _ able.same (walking-start able.laid (c.new-start.ensures h start)))
+    rw (← able.first)
+    (ran-as (λ _ _ k. k) (λ _ k. k.crowded.0)
+    (c.run.ensures h walked _ able.same (walking-start able.laid (c.new-start.ensures.shows h start))))

@@ -9,4 +9,6 @@ run-requires g c =
     (r.0, r.1, (r.0, same_self r.0, r.2))
 
 pub returns : goal.returns
-returns g c i walked s same h = ran-as (λ w t k. order-shown k.0 k.1) (λ x k. k) (c.run.ensures walked s (i, same, h))
+returns g c i walked s same h =
+    let ran = c.run.ensures walked s (i, same, h) in
+    ran-as (λ w t k. order-shown k.0 k.1) (λ x k. k) ran
