@@ -114,7 +114,7 @@ pub record LinkRoom {WORDS NEEDS : ℕ} (g : Graph WORDS NEEDS) : Type 0 where
 abbrev pub PairsOf : {WORDS NEEDS : ℕ} → List Need → Graph WORDS NEEDS → Type 0
 PairsOf needs g = pairs_of g.pairs.from g.pairs.to g.pairs.count ≡ different_pairs (map ends needs)
 
--- After the neighbours were chained all else is as it was, but for the heads of numbers that are no items, which are left free.
+-- After the neighbours were chained all else is as it was, also the heads of numbers that are no items.
 pub record Linked {WORDS NEEDS : ℕ} (old new : Graph WORDS NEEDS) : Type 0 where
   pub matrices-kept : matrices_of new ≡ matrices_of old
   pub words-kept : new.weak.words ≡ old.weak.words
@@ -123,3 +123,5 @@ pub record Linked {WORDS NEEDS : ℕ} (old new : Graph WORDS NEEDS) : Type 0 whe
   pub count-kept : new.pairs.count ≡ old.pairs.count
   pub out-rest : drop old.pairs.count new.outgoing.next ≡ drop old.pairs.count old.outgoing.next
   pub in_rest : drop old.pairs.count new.incoming.next ≡ drop old.pairs.count old.incoming.next
+  pub out-heads : drop old.nodes new.outgoing.heads ≡ drop old.nodes old.outgoing.heads
+  pub in_heads : drop old.nodes new.incoming.heads ≡ drop old.nodes old.incoming.heads

@@ -13,9 +13,9 @@ use Rattle.lists.specs.Pairs.{Pair, pair, holds_pair, add_pair, add_pairs, diffe
 use Rattle.lists.specs.ArrayLaws.{after-set}
 use Rattle.lists.specs.PairLaws.{add_pair-old, length-add_pair, seen-added}
 use Rattle.graph.specs.Rows.{Rows, Fits, cleared, cell, Holds, Rest, Stored}
-use Rattle.graph.specs.RowLaws.{same_place, column, place, rows-cleared}
+use Rattle.graph.specs.RowLaws.{same_place, column, place, rows-sized, rows-cleared}
 use Rattle.graph.specs.Reach.{WayAdded}
-use Rattle.graph.specs.WordLaws.{transposed-cleared}
+use Rattle.graph.specs.WordLaws.{transposed-none}
 use Rattle.graph.specs.Graph.{Matrices, matrices, Space, ends, is_maybe, Shows, Cleared, EdgeRoom, EdgeAdded}
 
 -- The different pairs of needs, with one need more.
@@ -86,6 +86,19 @@ space {WORDS} {words} {n} fits most seen weak reach into paths =
     rows : (matrix : List ℕ) → length matrix ≡ WORDS → Rows words n matrix
     rows matrix e = record { numbers = fits.numbers; most = fits.most; size = omega (arith, fits.size, e) }
 
+-- The matrices keep their rows while they keep their lengths.
+pub space-sized : {words n : ℕ} {m m' : Matrices} → Space words n m → length m'.seen ≡ length m.seen → length m'.weak ≡ length m.weak
+    → length m'.reach ≡ length m.reach → length m'.into ≡ length m.into → length m'.paths ≡ length m.paths → Space words n m'
+space-sized {m = m} {m' = m'} s seen weak reach into paths =
+    record {
+      seen-rows = rows-sized m.seen m'.seen s.seen-rows seen;
+      seen_most = omega (arith, s.seen_most);
+      weak-rows = rows-sized m.weak m'.weak s.weak-rows weak;
+      reach-rows = rows-sized m.reach m'.reach s.reach-rows reach;
+      into-rows = λ one. rows-sized m.into m'.into (s.into-rows one) into;
+      paths-rows = rows-sized m.paths m'.paths s.paths-rows paths;
+    }
+
 -- Cleared matrices show the graph without needs.
 pub all-cleared : {words n : ℕ} {m m' : Matrices} → Space words n m' → m'.seen ≡ cleared (n * words) m.seen
     → m'.weak ≡ cleared (n * words) m.weak → m'.reach ≡ cleared (n * words) m.reach → m'.paths ≡ cleared (n * words) m.paths
@@ -104,7 +117,7 @@ all-cleared {words} {n} {m} space seen weak reach paths into left =
             seen-pairs = rw seen (rows-cleared words n m.seen);
             weights = rw weak (rows-cleared words n m.weak);
             reached = rw reach (rows-cleared words n m.reach);
-            transposed = λ one. rw (reach, into one, one) (transposed-cleared n m.reach (omega (arith, space.reach-rows.numbers)));
+            transposed = λ one. rw (reach, into one, one) (transposed-none n m.reach (omega (arith, space.reach-rows.numbers)));
             in-paths = rw paths (rows-cleared words n m.paths);
           };
       seen-whole = seen;

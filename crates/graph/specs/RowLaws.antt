@@ -129,6 +129,11 @@ rows_more {words} {i} {sets} {old} {now} {new} j k =
     go a b h g (holds e) = k.cells a b g ∙ rw (e, eqb-true a i e, j.rest i b (omega arith) g)
     go a b h g (fails e) = let d = eqb-false a i e in k.cells a b g ∙ rw (e, or-false) (j.rows a b (omega arith) g)
 
+-- Rows joined with the same sets.
+pub rows_same : {words n : ℕ} {sets : ℕ → ℕ → Bool} {old new : List ℕ} (sets' : ℕ → ℕ → Bool)
+    → ((a b : ℕ) → b < 64 * words → sets a b ≡ sets' a b) → RowsJoined words n sets old new → RowsJoined words n sets' old new
+rows_same sets' same j = record { rows = λ a b h g. rw (← same a b g) (j.rows a b h g); rest = j.rest }
+
 -- A row joined with the same set, with nothing, and with one number.
 pub row_same : {words a : ℕ} {set : ℕ → Bool} {old new : List ℕ} (set' : ℕ → Bool) → ((b : ℕ) → b < 64 * words → set b ≡ set' b)
     → RowJoined words a set old new → RowJoined words a set' old new

@@ -56,6 +56,16 @@ word-joined matrix a w within =
           (λ d. rw (ne_eqb c a d, or-false));
     }
 
+-- A set without a number that it holds, as the code computes it, is a lesser word.
+pub set-without : (rows i : ℕ) → rows < 2 ^ 64 → i < 64 → bit rows i ≡ true
+    → (bit_and rows (2 ^ 64 - 1 - 1 * 2 ^ i % 2 ^ 64) < rows)
+    × ((j : ℕ) → j < 64 → bit (bit_and rows (2 ^ 64 - 1 - 1 * 2 ^ i % 2 ^ 64)) j ≡ (not (eqb j i) && bit rows j))
+set-without rows i most h held =
+    let rest = bit_and rows (2 ^ 64 - 1 - 1 * 2 ^ i % 2 ^ 64) in (
+      bit-less 64 rest rows i (omega (arith, and_le_l rows (2 ^ 64 - 1 - 1 * 2 ^ i % 2 ^ 64))) most h held (λ j g. bit-without rows i j h g),
+      λ j g. bit-without rows i j h g,
+    )
+
 -- A set that is not empty, and the word of all but its least number, as the code computes it: a lesser one.
 pub least-taken : (set : ℕ) → 0 < set → set < 2 ^ 64
     → let i = count_trailing_zeros 64 set in
@@ -110,8 +120,17 @@ below-room {n} rows matrix size none a h e = go (tested (ltb a n))
     go (fails t) = absurd (false≢true (sym (none a (ltb-false a n t) h) ∙ e))
 
 -- Cleared matrices are the transpose of each other.
-pub transposed-cleared : (n : ℕ) (reach : List ℕ) → n ≤ 64 → Transposed n (cleared (n * 1) reach) (replicate 64 0)
-transposed-cleared n reach most =
+pub transposed-cleared : (n : ℕ) (reach into : List ℕ) → n ≤ 64 → Transposed n (cleared (n * 1) reach) (cleared (n * 1) into)
+transposed-cleared n reach into most =
+    record {
+      cells = λ a b h g. rows-cleared 1 n into b a g (omega arith) ∙ sym (rows-cleared 1 n reach a b h (omega arith));
+      reach-below = λ a b h g f. rows-cleared 1 n reach a b h f;
+      into-below = λ a b h g f. rows-cleared 1 n into a b h f;
+    }
+
+-- With the matrix of what reaches each item all zeros it is so too.
+pub transposed-none : (n : ℕ) (reach : List ℕ) → n ≤ 64 → Transposed n (cleared (n * 1) reach) (replicate 64 0)
+transposed-none n reach most =
     record {
       cells = λ a b h g. none b a ∙ sym (rows-cleared 1 n reach a b h (omega arith));
       reach-below = λ a b h g f. rows-cleared 1 n reach a b h f;

@@ -1,17 +1,21 @@
 -- Laws of chains as src/chains.rt keeps them. Assumes nothing.
-use Rattle.std.specs.Prelude.{ℕ, zero, suc, ◌-◌, ◌≤◌, ◌<◌, ◌≡◌, Option, Some, None, length, get_or, take, drop, replicate}
+use Rattle.std.specs.Prelude.{ℕ, zero, suc, ◌+◌, ◌-◌, ◌≤◌, ◌<◌, ◌≡◌, refl, Option, Some, None, eqb, length, get_or, take, drop, replicate}
 use Rattle.std.specs.Iterator.{YieldsFirst}
-use Rattle.std.proofs.Common.{arith, ap, subst, ◌∙◌, length-take-le}
+use Rattle.std.proofs.Common.{arith, sym, ap, subst, ◌∙◌, length-take, length-drop, length-take-le, get_or-take, get_or-drop, eqb-true}
 use Rattle.std.proofs.Math.Seq.{take-take}
 use Rattle.std.proofs.Math.ListN.{get_or-append}
-use Rattle.std.proofs.lemmas.List.{length-replicate, get_or-replicate}
+use Rattle.std.proofs.lemmas.Bool.{eqb-false}
+use Rattle.std.proofs.lemmas.List.{length-replicate, get_or-replicate, ext_get_or}
 use Rattle.std.proofs.Math.Numerals.{sub-one}
 use mathlib.Core.List.Memᴰ
 use mathlib.Core.List.{List, [], ◌∷◌, ◌++◌, map, zip_with}
+use Rattle.rules.specs.Lists.{positions_from}
+use Rattle.laws.specs.Lists.{◌∈◌, ∈-self, Tested, holds, fails, tested}
 use Rattle.laws.specs.Counting.{Below, below-nil}
+use Rattle.laws.specs.Orders.{positions-∈}
 use Rattle.lists.specs.Chained.{places, Leads}
 use Rattle.lists.specs.ChainLaws.{chain-end, chain-step, chain-below, chain-most, targets-more}
-use Rattle.lists.specs.Pairs.{pair, seconds_of, pairs_of, targets, Linked}
+use Rattle.lists.specs.Pairs.{pair, seconds_of, pairs_of, chain, targets, Linked}
 use Rattle.lists.specs.PairLaws.{targets-seconds}
 
 -- None from the end on; else the first place, and those behind it.
@@ -56,3 +60,30 @@ module _ (from to heads₀ next₀ heads next : List ℕ) (n : ℕ) (from-size :
       targets-more n next (λ j. linked-all.next-onward j (omega arith)) to (length next) (get_or heads a 0) next-size (linked-all.heads-onward a none).1
       ∙ targets-seconds (take n from) to heads₀ next₀ heads next n (omega (arith, keys-length)) to-size linked-all a within none
       ∙ ap (λ (x : List ℕ). seconds_of a (zip_with pair x (take n to))) (take-take n n from (omega arith))
+
+-- Once n pairs are chained whose keys are all below b, the heads from b on are as they were.
+module _ (from heads₀ next₀ heads next : List ℕ) (n b : ℕ) (l : Linked 0 from n heads₀ next₀ heads next) (same : length heads ≡ length heads₀)
+    (below : (i : ℕ) → i < n → get_or from i 0 < b) where
+  -- the chain of another key has no places
+  free : (k e : ℕ) → b ≤ k → e ≤ n → chain next n e ≡ positions_from 0 (λ x. eqb x k) (take n from) → e ≡ 0
+  free k zero h g c = refl
+  free k (suc i) h g c =
+      let first : chain next n (suc i) ≡ i ∷ chain next n (get_or next i 0) = chain-step n 0 next l.next-onward i (omega arith) g in
+      let r = positions-∈ (λ x. eqb x k) 0 0 (take n from) (subst (λ (l : List ℕ). i ∈ l) (sym first ∙ c) ∈-self) in
+      let key : get_or (take n from) r.0 0 ≡ k = eqb-true (get_or (take n from) r.0 0) k r.3 in
+      let within : r.0 < n = omega (arith, r.2, length-take n from) in
+      absurd (omega (arith, key, get_or-take n from r.0 0 within, below r.0 within))
+
+  head_kept : (k : ℕ) → b ≤ k → k < length heads → get_or heads k 0 ≡ get_or heads₀ k 0
+  head_kept k h g = go (tested (eqb (get_or heads₀ k 0) 0))
+    where
+      go : Tested (eqb (get_or heads₀ k 0) 0) → get_or heads k 0 ≡ get_or heads₀ k 0
+      go (holds e) =
+          let none : get_or heads₀ k 0 ≡ 0 = eqb-true (get_or heads₀ k 0) 0 e in
+          free k (get_or heads k 0) h (l.heads-onward k none).1 (l.chains k g none) ∙ sym none
+      go (fails e) = l.heads-rest k (eqb-false (get_or heads₀ k 0) 0 e)
+
+  pub heads-past : drop b heads ≡ drop b heads₀
+  heads-past =
+      ext_get_or 0 (drop b heads) (drop b heads₀) (omega (arith, length-drop b heads, length-drop b heads₀))
+      (λ i h. rw (get_or-drop b heads, get_or-drop b heads₀) (head_kept (b + i) (omega arith) (omega (arith, length-drop b heads))))

@@ -20,7 +20,7 @@ use Rattle.laws.proofs.OrderCalls.{given-belongs, segment}
 use Rattle.lists.specs.Bits.{bit}
 use Rattle.lists.specs.BitLaws.{bit-zero}
 use Rattle.owners.specs.declared.NeedRows.{NeedRows}
-use Rattle.owners.specs.GroupBytes.{first-within, first_past}
+use Rattle.owners.specs.GroupBytes.{group-within, group_past}
 use Rattle.owners.specs.Owners.{owner_of, needs_of}
 use Rattle.owners.specs.NeedRows.{NeedsChained}
 use Rattle.owners.specs.OwnerLaws.{owner-first, needs-few, among-kept}
@@ -91,7 +91,7 @@ module _ {p : Project} {groups : List (List ℕ)} {turns : Turns} (ready : Ready
   modules-below m k = turn-formed.below m (reverse-∈ members (keep-∈ _ (reverse members) k).0)
 
   pub turn-within : 1 + length members ≤ length t.rest.now
-  turn-within = rw s.bytes_left (first-within members later)
+  turn-within = rw s.bytes_left (group-within members later)
 
   pub turn-some : 0 < t.left
   turn-some = omega (arith, s.left_is)
@@ -125,7 +125,7 @@ module _ {p : Project} {groups : List (List ℕ)} {turns : Turns} (ready : Ready
         rows = s.rows ++ more;
         parts =
             s.parts ∙ sym (ap (λ (l : List (List ℕ)). l ++ later) (reverse-cons members s.earlier) ∙ append_assoc (reverse s.earlier) (members ∷ []) later);
-        bytes_left = a.rest-is ∙ ap (drop (1 + length members)) s.bytes_left ∙ first_past members later;
+        bytes_left = a.rest-is ∙ ap (drop (1 + length members)) s.bytes_left ∙ group_past members later;
         left_is = omega (arith, a.left_is, s.left_is);
         used-shown = λ m. group-done m (a.used-is m);
         gave = gave-more s.gave seg.once seg.only;

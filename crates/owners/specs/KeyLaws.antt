@@ -1,8 +1,8 @@
 -- Laws of needs chained by their keys. Assumes nothing.
 use Prim.Native.Nat.{ℕ, zero, suc, ◌+◌, ◌-◌, ◌*◌, ◌/◌, ◌≤◌, ◌<◌}
-use Rattle.std.proofs.Common.{arith, ◌∙◌, take_all}
+use Rattle.std.proofs.Common.{arith, ◌∙◌, take_all, get_or-drop}
 use Rattle.std.specs.Option.{option_eq}
-use Rattle.std.specs.Prelude.{◌≡◌, Bool, Option, Some, None, eqb, length, get_or, take, set}
+use Rattle.std.specs.Prelude.{◌≡◌, Bool, Option, Some, None, eqb, length, get_or, take, drop, set}
 use Rattle.std.proofs.Math.Path.{refl, sym, ap, ap₂}
 use mathlib.Core.List.{List, [], ◌∷◌, map}
 use Rattle.std.proofs.lemmas.List.{length-map, set-get_or}
@@ -227,6 +227,22 @@ module _ {p : Project} {groups : List (List ℕ)} {items needs : List ℕ} {owne
             (omega (arith, keys_length p groups)) next-room (omega (arith, key, key_room, chains.sizes)) (rw key (free k)) l)
 
     module _ (l : Chaining p groups 0 heads₀ next₀ heads next) where
+      count : length p.needs ≡ length needs / 3
+      count = needs-total o
+
+      pub heads-within : (k : ℕ) → get_or heads k 0 ≤ length needs / 3
+      heads-within k = omega (arith, (l.heads-onward (suc k) (free k)).1, count)
+
+      pub next-within : (i : ℕ) → i < length needs / 3 → Onward (suc i) (length needs / 3) (get_or next i 0)
+      next-within i h = rw count at (l.next-onward i (omega arith) (omega (arith, count)))
+
+      pub next_past : ((i : ℕ) → get_or next₀ i 0 ≡ 0) → (i : ℕ) → length needs / 3 ≤ i → get_or next i 0 ≡ 0
+      next_past zeros i h =
+          let n : ℕ = length p.needs in
+          let place : n + (i - n) ≡ i = omega (arith, count) in
+          let rest : get_or (drop n next) (i - n) 0 ≡ get_or (drop n next₀) (i - n) 0 = ap (λ (x : List ℕ). get_or x (i - n) 0) l.next-rest in
+          (rw (get_or-drop n next, get_or-drop n next₀, place) at rest) ∙ zeros i
+
       first-keys : take (length p.needs) (keys_of p groups) ≡ keys_of p groups
       first-keys = take_all (length p.needs) (keys_of p groups) (omega (arith, keys_length p groups))
 

@@ -2,7 +2,7 @@
 // finds its needs without a scan of all.
 #![tactic(auto)]
 
-ghost use Rattle.std.specs.Prelude.{ℕ, ◌≤◌, ◌<◌, ◌≡◌, List, length, get_or};
+ghost use Rattle.std.specs.Prelude.{ℕ, ◌/◌, ◌≤◌, ◌<◌, ◌≡◌, List, length, get_or};
 ghost use Rattle.rules.specs.Project.{Project, module_limit};
 ghost use Rattle.laws.specs.Counting.{Below};
 ghost use Rattle.owners.specs.Owners.{Noted, Notable, OwnersShown, Owned, owner_at, RowRoom, both_own};
@@ -79,13 +79,14 @@ pub struct NeedRows<'a, const NEEDS: usize> {
 }
 
 impl<'a, const NEEDS: usize> NeedRows<'a, NEEDS> {
-    ghost use Rattle.owners.specs.NeedRows.{NeedsChained};
+    ghost use Rattle.owners.specs.NeedRows.{NeedsChained, LinkedWithin};
 
     // A need whose items have different owners is on no chain: no group asks for it.
     pub fn new(section: &'a [u8], items: &[u8], owners: &Owners) -> Self
         requires { (p : Project) × (groups : List (List ℕ)) × Owned p groups items.now section.now owners.now.array × (length p.needs ≤ NEEDS) }
-        ensures { (p : Project) (groups : List (List ℕ)) → Owned p groups items.now section.now owners.now.array → length p.needs ≤ NEEDS
+        ensures chained { (p : Project) (groups : List (List ℕ)) → Owned p groups items.now section.now owners.now.array → length p.needs ≤ NEEDS
             → NeedsChained p groups result }
+        ensures linked { LinkedWithin (length section.now / 3) result }
     {
         let mut chains = Chains::new();
         for row in (0..section.len() / NeedRow::BYTES).rev() {

@@ -1,5 +1,5 @@
--- The rows of a section, as the code has them, and the paper's rows that they are. Assumes nothing.
-use Rattle.std.specs.Prelude.{ℕ, ◌+◌, List, get_or}
+-- The rows and lists of a section, as the code has them, and the paper's rows that they are. Assumes nothing.
+use Rattle.std.specs.Prelude.{ℕ, ◌+◌, List, get_or, take, drop}
 use Rattle.rules.specs.Project.{Item, Import, Need, item_row, import_row, need_row}
 use Rattle.project.specs.declared.sections.ItemRow.{ItemRow}
 use Rattle.project.specs.declared.sections.ImportRow.{ImportRow}
@@ -24,6 +24,10 @@ import_row_at bytes at = import_of (get_or bytes at 0) (get_or bytes (at + 1) 0)
 
 abbrev pub need_row_at : List ℕ → ℕ → NeedRow
 need_row_at bytes at = need_of (get_or bytes at 0) (get_or bytes (at + 1) 0) (get_or bytes (at + 2) 0)
+
+-- the members of a list, whose count stands before them
+abbrev pub list_at : List ℕ → ℕ → List ℕ
+list_at bytes at = take (get_or bytes at 0) (drop (at + 1) bytes)
 
 -- the paper's row that a row of the code is
 abbrev pub item_in : ItemRow → Item

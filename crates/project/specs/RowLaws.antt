@@ -1,7 +1,7 @@
 -- Rows by their place in a section, for scans that go from one row to the next. Assumes nothing.
 use Prim.Native.Nat.{ℕ, zero, suc, ◌+◌, ◌-◌, ◌/◌, ◌≤◌, ◌<◌}
 use native.Mathlib.Omega.{arith}
-use Rattle.std.specs.Prelude.{◌≡◌, Bool, true, not, ◌||◌, eqb, leb, length, get_or, drop}
+use Rattle.std.specs.Prelude.{◌≡◌, Bool, true, false, not, ◌||◌, eqb, leb, length, get_or, drop}
 use Rattle.std.proofs.Math.Path.{refl}
 use mathlib.Core.List.{List, [], ◌∷◌}
 use Rattle.std.proofs.Math.Dec.{eqb-suc-zero}
@@ -17,6 +17,20 @@ pub any-of : {A : Type 0} (test : A → Bool) (l : List A) → list_any test l �
 unfolding any
 any-of test [] = refl
 any-of test (x ∷ l) = rw (any-of test l)
+
+-- A test of rows, by what the first of them says.
+module _ {A : Type 0} (test : A → Bool) {x : A} {l rows : List A} (first : rows ≡ x ∷ l) where
+  pub any_here : test x ≡ true → any test rows ≡ true
+  unfolding any
+  any_here t = rw (first, t)
+
+  pub any-past : test x ≡ false → any test rows ≡ any test l
+  unfolding any
+  any-past t = rw (first, any, t)
+
+pub any_none : {A : Type 0} (test : A → Bool) {rows : List A} → rows ≡ [] → any test rows ≡ false
+unfolding any
+any_none test e = rw e
 
 -- The rows of 2 bytes at byte i.
 module _ {A : Type 0} (row : ℕ → ℕ → A) where

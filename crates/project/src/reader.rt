@@ -4,7 +4,7 @@ ghost use Rattle.std.specs.Iterator.{YieldsFirstBy, YieldsFirstRef, item_count};
 ghost use Rattle.rules.specs.Project.{circle_lists};
 ghost use Rattle.project.specs.Counted.{AreWhole};
 
-use super::sections::Row;
+use super::sections::{Row, list_at};
 use std::marker::{Model, PhantomData};
 
 // The rows of a section, seen as the bytes that are left.
@@ -89,9 +89,9 @@ impl<'a> Iterator for Lists<'a> {
     ghost remaining = { item_count (λ lists. lists) };
 
     fn next(&mut self) -> Option<&'a [u8]> {
-        let (count, rest) = self.bytes.split_first()?;
-        let (list, rest) = rest.split_at(usize::from(*count));
-        self.bytes = rest;
+        let (_, rest) = self.bytes.split_first()?;
+        let list = list_at(self.bytes, 0);
+        self.bytes = &rest[list.len()..];
         Some(list)
     }
 }

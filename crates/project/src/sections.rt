@@ -1,8 +1,8 @@
-// The rows of a project's sections, decoded.
-ghost use Rattle.std.specs.Prelude.{◌≡◌, ℕ, ◌+◌, ◌*◌, ◌≤◌, ◌<◌, List, [], ◌∷◌, length, drop};
+// The rows and lists of a project's sections, decoded.
+ghost use Rattle.std.specs.Prelude.{◌≡◌, ℕ, ◌+◌, ◌*◌, ◌≤◌, ◌<◌, List, [], ◌∷◌, length, get_or, drop};
 ghost use Rattle.std.proofs.Common.{rules};
 ghost use Rattle.rules.specs.Project.{Item, Import, Need, need_bytes, item_row, import_row, pair_rows, need_rows};
-ghost use Rattle.project.specs.Decoded.{item_row_at, import_row_at, need_row_at, item_in, import_in, need_in};
+ghost use Rattle.project.specs.Decoded.{item_row_at, import_row_at, need_row_at, item_in, import_in, need_in, list_at};
 ghost use Rattle.project.specs.DecodedLaws.{item_within, import_within, need_within};
 ghost use Rattle.project.specs.RowLaws.{pairs_first, pairs_none, needs_first, needs_none};
 
@@ -156,4 +156,13 @@ impl Row for NeedRow {
             weight: WeightByte(bytes[2]),
         }
     }
+}
+
+// The members of the list at a position of its section: the bytes behind the count.
+pub fn list_at(section: &[u8], at: usize) -> &[u8]
+    requires { (at < length section.now) × (at + 1 + get_or section.now at 0 ≤ length section.now) }
+    ensures { result.now ≡ list_at section.now at }
+{
+    let start = at + 1;
+    &section[start..start + usize::from(section[at])]
 }

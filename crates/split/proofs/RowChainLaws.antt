@@ -1,5 +1,5 @@
 -- Laws of the item rows chained by their modules. Assumes nothing.
-use Rattle.std.specs.Prelude.{ℕ, suc, ◌*◌, ◌/◌, ◌≤◌, ◌<◌, ◌≡◌, refl, Bool, List, [], ◌∷◌, map, eqb, length, get_or}
+use Rattle.std.specs.Prelude.{ℕ, suc, ◌*◌, ◌/◌, ◌≤◌, ◌<◌, ◌≡◌, refl, Bool, List, [], ◌∷◌, map, eqb, length, get_or, replicate}
 use Rattle.std.proofs.Common.{arith, sym, ap, ◌∙◌, take_all}
 use Rattle.std.proofs.lemmas.List.{length-map}
 use Rattle.rules.specs.Lists.{positions_from}
@@ -7,16 +7,14 @@ use Rattle.rules.specs.Project.{Item, Project, module_limit, item_limit, item_ro
 use Rattle.rules.specs.Items.{no_item}
 use Rattle.laws.specs.Accepted.{Accepted}
 use Rattle.laws.specs.Orders.{get_or-∈, get_d_map}
+use Rattle.lists.specs.Arrays.{Zeros}
+use Rattle.lists.specs.ArrayLaws.{zeros-whole}
 use Rattle.lists.specs.Chained.{places}
 use Rattle.lists.specs.ChainLaws.{chain_same}
 use Rattle.lists.specs.Pairs.{Linked}
 use Rattle.project.specs.RowLaws.{pairs-length}
-use Rattle.split.specs.Rows.{module_rows}
+use Rattle.split.specs.Rows.{module_rows, modules_in}
 use Rattle.split.specs.RowLaws.{pair-at}
-
--- the module of each row of a section
-abbrev pub modules_in : List ℕ → List ℕ
-modules_in section = map (λ (i : Item). i.in_module) (pair_rows item_row section)
 
 pub modules-length : (section : List ℕ) → length (modules_in section) ≡ length section / 2
 modules-length section = length-map (pair_rows item_row section) (λ (i : Item). i.in_module) ∙ pairs-length item_row section
@@ -56,3 +54,9 @@ module _ (p : Project) (section heads₀ next₀ heads next : List ℕ) (whole :
       ∙ ap (positions_from 0 (λ x. eqb x m)) (take_all n (modules_in section) (omega (arith, modules-length section)))
       ∙ positions-map (λ (i : Item). i.in_module) (λ x. eqb x m) 0 (pair_rows item_row section)
       ∙ sym (ap (positions_from 0 (λ (i : Item). eqb i.in_module m)) whole)
+
+-- They are linked from zeros on, where the arrays were zeros.
+pub rows-linked : (section : List ℕ) {heads₀ next₀ heads next : List ℕ} → Zeros module_limit heads₀ → Zeros item_limit next₀
+    → Linked 0 (modules_in section) (length section / 2) heads₀ next₀ heads next
+    → Linked 0 (modules_in section) (length section / 2) (replicate module_limit 0) (replicate item_limit 0) heads next
+rows-linked section {heads₀ = heads₀} {next₀ = next₀} none free l = rw (zeros-whole module_limit heads₀ none, zeros-whole item_limit next₀ free) at l

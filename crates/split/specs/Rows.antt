@@ -1,16 +1,29 @@
 -- The item rows of a project as src/rows.rt chains them. Assumes nothing.
-use Rattle.std.specs.Prelude.{ℕ, ◌≤◌, ◌<◌, ◌≡◌, Bool, true, false, not, ◌&&◌, List, eqb, length, get_or}
+use Rattle.std.specs.Prelude.{ℕ, ◌/◌, ◌≤◌, ◌<◌, ◌≡◌, Bool, true, false, not, ◌&&◌, List, map, eqb, length, get_or, replicate}
 use mathlib.Core.List.{flat_map}
 use Rattle.rules.specs.Lists.{positions_from}
 use Rattle.rules.specs.Project.{Item, Project, module_limit, item_limit, item_row, pair_rows}
 use Rattle.rules.specs.Items.{is_kept, is_injected, uninjected_rows, injected_rows}
 use Rattle.laws.specs.Lists.{◌∈◌}
 use Rattle.lists.specs.Chained.{places}
+use Rattle.lists.specs.Pairs.{Linked}
 use Rattle.split.specs.declared.rows.ItemRows.{ItemRows}
 
 -- all rows of a module, ascending
 abbrev pub module_rows : Project → ℕ → List ℕ
 module_rows p m = positions_from 0 (λ (i : Item). eqb i.in_module m) p.items
+
+-- the number by which a row is chained: its module; and that of each row of a section
+abbrev pub module_in : Item → ℕ
+module_in i = i.in_module
+
+abbrev pub modules_in : List ℕ → List ℕ
+modules_in section = map module_in (pair_rows item_row section)
+
+-- The links by these fix heads and `next`: from arrays of zeros on, behind the rows there are zeros still.
+abbrev pub RowsLinked : ItemRows → Type 0
+RowsLinked items =
+    Linked 0 (modules_in items.section.now) (length items.section.now / 2) (replicate module_limit 0) (replicate item_limit 0) items.chains.heads items.chains.next
 
 -- The section is that of the project's items, and each module's rows stand along its chain.
 pub record RowsShown (p : Project) (items : ItemRows) : Type 0 where

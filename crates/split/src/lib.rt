@@ -47,7 +47,7 @@ pub fn push_entries(entries: &[u16], list: &mut [u16], end: usize) -> usize
 // The split on arrays, each read by place. Of each number below `count` there are the row, the kind and the range of its module, from `low` to `high`
 // without `high`. The injected numbers, those from `uninjected` on, have no range. Of each module there is the start of its range. Kinds are bytes: the
 // definitions of the split speak of lists of numbers, and a byte is wrapped where it is read.
-#[derive(Drop)]
+#[derive(Clone, Copy)]
 pub struct Split {
     pub rows: [u16; Layout::ITEM_ROOM],
     pub kinds: [u8; Layout::ITEM_ROOM],

@@ -15,11 +15,12 @@ pub struct ItemRows<'a> {
 }
 
 impl<'a> ItemRows<'a> {
-    ghost use Rattle.split.specs.Rows.{RowsShown};
+    ghost use Rattle.split.specs.Rows.{RowsShown, RowsLinked};
 
     pub fn new(section: &'a [u8]) -> Self
         requires { (p : Project) × Accepted p × (p.items ≡ pair_rows item_row section.now) }
-        ensures { (p : Project) → Accepted p → p.items ≡ pair_rows item_row section.now → RowsShown p result }
+        ensures shown { (p : Project) → Accepted p → p.items ≡ pair_rows item_row section.now → RowsShown p result }
+        ensures linked { RowsLinked result }
     {
         let mut chains = Chains::new();
         for row in (0..section.len() / ItemRow::BYTES).rev() {

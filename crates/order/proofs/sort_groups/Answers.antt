@@ -13,7 +13,7 @@ use Rattle.order.proofs.sort_groups.Goals.{After-givers}
 all : (c : After-givers) {p : Project} {gs : List (List ℕ)}
     → Orderable p gs c.args.items.now c.args.imports.now c.args.needs.now c.args.groups.now c.args.count c.args.out.now
     → Ready p gs record { items = c.new.result; importers = c.importers.result; givers = c.givers.result }
-all c {p} o = ready o (c.new.ensures p o.accepted o.items-are) c.importers.ensures c.givers.ensures
+all c {p} o = ready o (c.new.ensures.shown p o.accepted o.items-are) c.importers.ensures c.givers.ensures
 
 pub keep_groups-first-requires : goal.keep_groups-first-requires
 keep_groups-first-requires c =

@@ -1,7 +1,7 @@
 use Rattle.std.proofs.Common.{ℕ, suc, List, arith, rules, sym, ap, ◌∙◌, ◌-◌, ◌≤◌, ◌≡◌, length, get_or, get_or-set_other}
 use Rattle.rules.specs.Project.{Project}
 use Rattle.owners.specs.Owners.{Owned}
-use Rattle.owners.specs.KeyLaws.{key_number, keys_of, needs-total, dependant-room, dependency-room, key-read, key_room, chaining-start, chaining-past, chaining-larger, chaining-one, needs-along}
+use Rattle.owners.specs.KeyLaws.{key_number, keys_of, needs-total, dependant-room, dependency-room, key-read, key_room, chaining-start, chaining-past, chaining-larger, chaining-one, heads-within, next-within, next_past, needs-along}
 use Rattle.owners.proofs.NeedRows.new.Given.{Over}
 use Rattle.owners.proofs.NeedRows.new.Goals as goal
 use Rattle.owners.proofs.NeedRows.new.Goals.{After-nth, After-of_need, After-from}
@@ -71,8 +71,20 @@ loop-row-preserved g c =
       λ j h. c.loop-row.invariant.1 j (omega arith),
     )
 
-pub returns : goal.returns
-returns g c =
+pub returns-clause-linked : goal.returns-clause-linked
+returns-clause-linked g c =
+    let o = c.requires.2 in
+    let fresh = c.new-chains in
+    let none : c.loop-row.row ≡ 0 = omega arith in
+    let l = rw none at (c.loop-row.invariant.0 c.requires.0 c.requires.1 o) in
+    record {
+      heads-most = heads-within o fresh.result c.loop-row.chains fresh.ensures.heads c.requires.3 l;
+      next-onward = next-within o fresh.result c.loop-row.chains fresh.ensures.heads c.requires.3 l;
+      next-rest = next_past o fresh.result c.loop-row.chains fresh.ensures.heads c.requires.3 l fresh.ensures.next;
+    }
+
+pub returns-clause-chained : goal.returns-clause-chained
+returns-clause-chained g c =
     let none : c.loop-row.row ≡ 0 = omega arith in
     λ p groups o fit.
     record {

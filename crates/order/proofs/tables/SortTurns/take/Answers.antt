@@ -9,7 +9,7 @@ new-sort-requires g c = let known = c.requires.bounds in (search rules, (known.0
 pub sort_turns-requires : goal.sort_turns-requires
 sort_turns-requires g c =
     let known = c.requires.going in
-    (search rules, (search rules, (known.0, known.1, known.2, sorting known.3 known.4 (c.new-needs.ensures known.0 known.1 known.3.owned known.4.places))))
+    (search rules, (search rules, (known.0, known.1, known.2, sorting known.3 known.4 (c.new-needs.ensures.chained known.0 known.1 known.3.owned known.4.places))))
 
 pub returns : goal.returns
-returns g c = λ p groups before h z. c.sort_turns.ensures p groups before (sorting h z (c.new-needs.ensures p groups h.owned z.places))
+returns g c = λ p groups before h z. c.sort_turns.ensures p groups before (sorting h z (c.new-needs.ensures.chained p groups h.owned z.places))

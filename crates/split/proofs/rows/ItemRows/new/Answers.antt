@@ -2,12 +2,13 @@ use Rattle.std.proofs.Common.{arith, rules, sym, ap, ◌∙◌, ◌-◌, ◌/◌
 use Rattle.rules.specs.Project.{module_limit}
 use Rattle.lists.specs.ChainLaws.{link-none, link-turn}
 use Rattle.project.specs.declared.sections.ItemRow.{ItemRow}
-use Rattle.split.proofs.RowChainLaws.{modules_in, module-at, modules-length, rows-count, module-below, rows-along}
+use Rattle.split.specs.Rows.{modules_in}
+use Rattle.split.proofs.RowChainLaws.{module-at, modules-length, rows-count, module-below, rows-along, rows-linked}
 use Rattle.split.proofs.rows.ItemRows.new.Goals as goal
 use Rattle.split.proofs.rows.ItemRows.new.Goals.{After-nth}
 
 pub loop-row-init : goal.loop-row-init
-loop-row-init c = link-none (modules_in c.args.section.now) (length c.args.section.now / 2) c.new-chains.result.heads c.new-chains.result.next
+loop-row-init c = link-none (modules_in c.args.section.now) (length c.args.section.now / 2) _ _
 
 -- the key of the row, its module
 key : (c : After-nth) → get_or (modules_in c.args.section.now) (c.loop-row.row - 1) 0 ≡ c.nth.result.in_module.0
@@ -28,13 +29,20 @@ loop-row-preserved c =
     let few = rows-count c.requires.0 c.args.section.now c.requires.1 c.requires.2 in
     let section = c.args.section.now in
     let chains = c.loop-row.chains in
-    rw (c.put_first.ensures.heads, c.put_first.ensures.next, c.from.ensures, ← key at_head)
-    (link-turn (modules_in section) c.new-chains.result.heads c.new-chains.result.next chains.heads chains.next (length section / 2) c.loop-row.row
+    let same : c.from.result ≡ get_or (modules_in section) (c.loop-row.row - 1) 0 = omega (arith, c.from.ensures, key at_head, below at_head) in
+    rw (c.put_first.ensures.heads, c.put_first.ensures.next, same)
+    (link-turn (modules_in section) _ _ chains.heads chains.next (length section / 2) c.loop-row.row
     c.loop-row-test.true (omega arith) (omega (arith, modules-length section)) (omega (arith, chains.sizes)) (omega (arith, below at_head, chains.sizes))
     (c.new-chains.ensures.heads _) c.loop-row.invariant)
 
-pub returns : goal.returns
-returns c =
+pub returns-clause-linked : goal.returns-clause-linked
+returns-clause-linked c =
+    let fresh = c.new-chains in
+    let none : c.loop-row.row ≡ 0 = omega arith in
+    rows-linked c.args.section.now (record { size = search rules; zeros = fresh.ensures.heads }) (record { size = search rules; zeros = λ i. grind (arith, fresh.ensures.next i) }) (rw none at c.loop-row.invariant)
+
+pub returns-clause-shown : goal.returns-clause-shown
+returns-clause-shown c =
     λ p a whole.
     record {
       section = whole;
@@ -43,6 +51,6 @@ returns c =
           λ m h.
           let few = rows-count p c.args.section.now a whole in
           let none : c.loop-row.row ≡ 0 = omega arith in
-          rows-along p c.args.section.now c.new-chains.result.heads c.new-chains.result.next c.loop-row.chains.heads c.loop-row.chains.next whole (rw none at c.loop-row.invariant)
+          rows-along p c.args.section.now _ _ c.loop-row.chains.heads c.loop-row.chains.next whole (rw none at c.loop-row.invariant)
           (omega (arith, c.loop-row.chains.sizes)) m (omega (arith, c.loop-row.chains.sizes)) (c.new-chains.ensures.heads m);
     }

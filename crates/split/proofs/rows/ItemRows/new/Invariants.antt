@@ -1,7 +1,7 @@
 -- `ItemRows::new` meets its contract. The loop's invariant: the rows from `row` on are chained. Assumes nothing.
 use Rattle.std.proofs.Common.{◌/◌, length}
 use Rattle.lists.specs.Pairs.{Linked}
-use Rattle.split.proofs.RowChainLaws.{modules_in}
+use Rattle.split.specs.Rows.{modules_in}
 use Rattle.split.proofs.rows.ItemRows.new.Given as goal
 
 abbrev pub invariant-loop-row : goal.invariant-loop-row
