@@ -1,7 +1,8 @@
 // Replays the stored answers that stand on standard input: makes the call of each line and compares the number, the reply and the report with what
 // the line says. A line is a call as crates/lines has it, then, each behind a colon, the number, the bytes that the reply gets and those that
-// the report gets, in base 16; all other bytes of both, and those around them, have to stay 170. A line that starts with '#' is passed over. Prints
-// each line that differs, and how many calls were made and how many differ. No contract says what is compared or printed.
+// the report gets, in base 16; all other bytes of both, and those around them, have to stay 170. The number is the word that begins behind the first
+// colon and ends at the next blank or at the line's end; a colon in it counts as the digit 0. A line that starts with '#' is passed over. Prints each
+// line that differs, and how many calls were made and how many differ. No contract says what is compared or printed.
 #![tactic(auto)]
 
 ghost use Rattle.std.specs.Prelude.{◌^◌, ◌<◌};
@@ -26,7 +27,8 @@ impl<'a> Stored<'a> {
     fn read(line: &'a [u8]) -> Option<Self> {
         let mut parts = Pieces::new(line, b':');
         let call = Call::read(parts.next()?)?;
-        let mut number = Pieces::new(parts.next().unwrap_or(b""), b' ');
+        let mut number = Pieces::new(parts.rest, b' ');
+        parts.next();
         let reply = parts.next().unwrap_or(b"");
         Some(Stored {
             call,
