@@ -5,7 +5,7 @@
 // line that differs, and how many calls were made and how many differ. No contract says what is compared or printed.
 #![tactic(auto)]
 
-ghost use Rattle.std.specs.Prelude.{◌^◌, ◌<◌};
+ghost use Rattle.std.specs.Prelude.{◌≡◌, ◌+◌, ◌^◌, ◌<◌, if◌then◌else◌};
 
 use input::read_full;
 use lines::text::{Pieces, value_of};
@@ -52,6 +52,19 @@ struct Count {
     differ: usize,
 }
 
+impl Count {
+    // Counts a call, which holds or differs.
+    fn add_call(&mut self, holds: bool)
+        requires calls { self.old.calls < usize.MAX }
+        requires differ { self.old.differ < usize.MAX }
+        ensures calls { self.new.calls ≡ self.old.calls + 1 }
+        ensures differ { self.new.differ ≡ (if holds then self.old.differ else self.old.differ + 1) }
+    {
+        self.calls += 1;
+        self.differ += usize::from(!holds);
+    }
+}
+
 // Replays a line: whether it holds, or None for a remark. One that is neither a remark nor a call does not hold.
 fn replay_line(line: &[u8], arrays: &mut Arrays) -> Option<bool> {
     match line {
@@ -67,9 +80,8 @@ fn replay_lines(rt: &impl Print, lines: Pieces<'_>) -> io::Result<Count> {
         let Some(holds) = replay_line(line, &mut arrays) else {
             continue;
         };
-        count.calls += 1;
+        count.add_call(holds);
         if !holds {
-            count.differ += 1;
             rt.write_all(b"differs: ")?;
             rt.write_all(line)?;
             rt.write_all(b"\n")?;
