@@ -1,5 +1,5 @@
 // Reading texts that a byte parts into pieces: an input's lines, a line's words.
-ghost use Rattle.std.specs.Prelude.{◌≡◌, ◌<◌, length, OnSome};
+ghost use Rattle.std.specs.Prelude.{◌≡◌, ◌<◌, [], length, MatchOption};
 ghost use Rattle.std.specs.Iterator.{at_most};
 
 // The pieces of a text, each ended by a byte or by the text's end. (`split` would give one more behind the last byte.)
@@ -20,9 +20,12 @@ impl<'a> Pieces<'a> {
 }
 
 impl<'a> Iterator for Pieces<'a> {
+    ghost use Rattle.lines.specs.Pieces.{PieceTaken};
+
     type Item = &'a [u8];
 
-    ghost next_gives = { λ s r t. OnSome r (length t.rest.now < length s.rest.now) };
+    // None comes only where nothing is left.
+    ghost next_gives = { λ s r t. MatchOption r ((s.rest.now ≡ []) × (t ≡ s)) (λ piece. PieceTaken piece.now s t) };
 
     ghost remaining = { λ s. at_most (length s.rest.now) };
 

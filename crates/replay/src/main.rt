@@ -1,10 +1,11 @@
 // Replays the stored answers that stand on standard input: makes the call of each line and compares the number, the reply and the report with what
 // the line says. A line is a call as crates/lines has it, then, each behind a colon, the number, the bytes that the reply gets and those that
-// the report gets, in base 16; all other bytes of both, and those around them, have to stay 170. A line that starts with '#' is passed over. Prints
-// each line that differs, and how many calls were made and how many differ. No contract says what is compared or printed.
+// the report gets, in base 16; all other bytes of both, and those around them, have to stay 170. The number is the word that begins behind the first
+// colon and ends at the next blank or at the line's end; a colon in it counts as the digit 0. A line that starts with '#' is passed over. Prints each
+// line that differs, and how many calls were made and how many differ. No contract says what is compared or printed.
 #![tactic(auto)]
 
-ghost use Rattle.std.specs.Prelude.{◌^◌, ◌<◌};
+ghost use Rattle.std.specs.Prelude.{◌≡◌, ◌+◌, ◌^◌, ◌<◌, if◌then◌else◌};
 
 use input::read_full;
 use lines::text::{Pieces, value_of};
@@ -26,7 +27,8 @@ impl<'a> Stored<'a> {
     fn read(line: &'a [u8]) -> Option<Self> {
         let mut parts = Pieces::new(line, b':');
         let call = Call::read(parts.next()?)?;
-        let mut number = Pieces::new(parts.next().unwrap_or(b""), b' ');
+        let mut number = Pieces::new(parts.rest, b' ');
+        parts.next();
         let reply = parts.next().unwrap_or(b"");
         Some(Stored {
             call,
@@ -50,6 +52,19 @@ struct Count {
     differ: usize,
 }
 
+impl Count {
+    // Counts a call, which holds or differs.
+    fn add_call(&mut self, holds: bool)
+        requires calls { self.old.calls < usize.MAX }
+        requires differ { self.old.differ < usize.MAX }
+        ensures calls { self.new.calls ≡ self.old.calls + 1 }
+        ensures differ { self.new.differ ≡ (if holds then self.old.differ else self.old.differ + 1) }
+    {
+        self.calls += 1;
+        self.differ += usize::from(!holds);
+    }
+}
+
 // Replays a line: whether it holds, or None for a remark. One that is neither a remark nor a call does not hold.
 fn replay_line(line: &[u8], arrays: &mut Arrays) -> Option<bool> {
     match line {
@@ -65,9 +80,8 @@ fn replay_lines(rt: &impl Print, lines: Pieces<'_>) -> io::Result<Count> {
         let Some(holds) = replay_line(line, &mut arrays) else {
             continue;
         };
-        count.calls += 1;
+        count.add_call(holds);
         if !holds {
-            count.differ += 1;
             rt.write_all(b"differs: ")?;
             rt.write_all(line)?;
             rt.write_all(b"\n")?;
