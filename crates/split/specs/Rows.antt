@@ -20,7 +20,7 @@ module_in i = i.in_module
 abbrev pub modules_in : List ℕ → List ℕ
 modules_in section = map module_in (pair_rows item_row section)
 
--- The links by these fix heads and `next`: from arrays of zeros on, behind the rows there are zeros still.
+-- All rows are linked by their modules, from arrays of zeros on, so that `next` has zeros behind the rows.
 abbrev pub RowsLinked : ItemRows → Type 0
 RowsLinked items =
     Linked 0 (modules_in items.section.now) (length items.section.now / 2) (replicate module_limit 0) (replicate item_limit 0) items.chains.heads items.chains.next
