@@ -16,12 +16,12 @@ const AROUND: usize = 2;
 // What every byte of the arrays is before a call.
 const UNTOUCHED: u8 = 170;
 
-// The bytes of the arrays.
-const PROJECT: usize = 8300;
+// The bytes of the arrays that the programs make.
+pub const PROJECT_ROOM: usize = 8300;
 
-const REPLY: usize = 4200;
+pub const REPLY_ROOM: usize = 4200;
 
-const REPORT: usize = 40;
+pub const REPORT_ROOM: usize = 40;
 
 // The bytes of the words; how many. Which bytes they are is left free: what a test program reads is seen in what it prints.
 pub fn bytes_of(words: Pieces<'_>, out: &mut [u8]) -> usize
@@ -112,12 +112,12 @@ pub struct Returned<'a> {
 
 // The arrays that reply and report are parts of.
 #[derive(PartialEq, Drop)]
-pub struct Arrays {
+pub struct Arrays<const REPLY: usize, const REPORT: usize> {
     reply: [u8; REPLY],
     report: [u8; REPORT],
 }
 
-impl Arrays {
+impl<const REPLY: usize, const REPORT: usize> Arrays<REPLY, REPORT> {
     pub fn new() -> Self
         ensures { (result.reply ≡ replicate REPLY 170) × (result.report ≡ replicate REPORT 170) }
     {
@@ -127,36 +127,41 @@ impl Arrays {
         }
     }
 
-    // The arrays after a call that has written these words to the reply and to the report.
-    pub fn written(reply: &[u8], report: &[u8]) -> Self
-        ensures { (take AROUND result.reply ≡ replicate AROUND 170) × (take AROUND result.report ≡ replicate AROUND 170) }
+    // Makes the arrays what they are after a call that has written these words to the reply and to the report.
+    pub fn write(&mut self, reply: &[u8], report: &[u8])
+        requires { (AROUND ≤ REPLY) × (AROUND ≤ REPORT) }
+        ensures { (take AROUND self.new.reply ≡ replicate AROUND 170) × (take AROUND self.new.report ≡ replicate AROUND 170) }
     {
-        let mut arrays = Arrays::new();
-        bytes_of(Pieces::new(reply, b' '), &mut arrays.reply[AROUND..]);
-        bytes_of(Pieces::new(report, b' '), &mut arrays.report[AROUND..]);
-        arrays
+        let reply_due = &mut self.reply[..];
+        let report_due = &mut self.report[..];
+        reply_due.fill(UNTOUCHED);
+        report_due.fill(UNTOUCHED);
+        bytes_of(Pieces::new(reply, b' '), &mut reply_due[AROUND..]);
+        bytes_of(Pieces::new(report, b' '), &mut report_due[AROUND..]);
     }
 
-    // Makes a call. What reply and report hold then is left free.
-    pub fn run(&mut self, call: Call<'_>) -> Returned<'_>
+    // Makes a call, whose project's bytes are written to `project`. What project, reply and report hold then is left free.
+    pub fn run(&mut self, call: Call<'_>, project: &mut [u8]) -> Returned<'_>
+        requires { (4 ≤ REPLY) × (4 ≤ REPORT) }
         ensures { (length result.reply.now ≤ REPLY) × (length result.report.now ≤ REPORT) }
     {
-        self.reply.fill(UNTOUCHED);
-        self.report.fill(UNTOUCHED);
-        let mut project = [0u8; PROJECT];
-        let n = bytes_of(call.project, &mut project);
-        let reply_end = AROUND + length_of(call.reply, &self.reply);
-        let report_end = AROUND + length_of(call.report, &self.report);
+        let reply = &mut self.reply[..];
+        let report = &mut self.report[..];
+        reply.fill(UNTOUCHED);
+        report.fill(UNTOUCHED);
+        let n = bytes_of(call.project, project);
+        let reply_end = AROUND + length_of(call.reply, reply);
+        let report_end = AROUND + length_of(call.report, report);
         let number = call.entry.enter(
             &project[..n],
-            &mut self.reply[AROUND..reply_end],
-            &mut self.report[AROUND..report_end],
+            &mut reply[AROUND..reply_end],
+            &mut report[AROUND..report_end],
             call.allowance,
         );
         Returned {
             number,
-            reply: &self.reply[..reply_end + AROUND],
-            report: &self.report[..report_end + AROUND],
+            reply: &reply[..reply_end + AROUND],
+            report: &report[..report_end + AROUND],
         }
     }
 }

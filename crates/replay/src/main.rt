@@ -9,9 +9,17 @@ ghost use Rattle.std.specs.Prelude.{◌≡◌, ◌+◌, ◌^◌, ◌<◌, if◌t
 
 use input::read_full;
 use lines::text::{Pieces, value_of};
-use lines::{Arrays, Call};
+use lines::{Arrays, Call, PROJECT_ROOM, REPLY_ROOM, REPORT_ROOM};
 use std::io;
 use std::io::Read;
+
+// What calls are made with: the bytes of a project, the arrays, and what these have to become. It is made once, since it is long.
+#[derive(Drop)]
+struct Memory {
+    project: [u8; PROJECT_ROOM],
+    arrays: Arrays<REPLY_ROOM, REPORT_ROOM>,
+    due: Arrays<REPLY_ROOM, REPORT_ROOM>,
+}
 
 // A call and what has to come of it: the number that it returns, and the words written to the reply and to the report.
 #[derive(Clone, Copy)]
@@ -39,9 +47,13 @@ impl<'a> Stored<'a> {
     }
 
     // Whether the call returns and leaves what it has to.
-    fn holds(&self, arrays: &mut Arrays) -> bool {
-        let number = arrays.run(self.call).number;
-        number == self.number && *arrays == Arrays::written(self.reply, self.report)
+    fn holds(&self, memory: &mut Memory) -> bool {
+        let number = memory.arrays.run(self.call, &mut memory.project).number;
+        if number != self.number {
+            return false;
+        }
+        memory.due.write(self.reply, self.report);
+        memory.arrays == memory.due
     }
 }
 
@@ -66,18 +78,22 @@ impl Count {
 }
 
 // Replays a line: whether it holds, or None for a remark. One that is neither a remark nor a call does not hold.
-fn replay_line(line: &[u8], arrays: &mut Arrays) -> Option<bool> {
+fn replay_line(line: &[u8], memory: &mut Memory) -> Option<bool> {
     match line {
         [] | [b'#', ..] => None,
-        _ => Some(Stored::read(line).is_some_and(|stored| stored.holds(arrays))),
+        _ => Some(Stored::read(line).is_some_and(|stored| stored.holds(memory))),
     }
 }
 
 fn replay_lines(rt: &impl Print, lines: Pieces<'_>) -> io::Result<Count> {
     let mut count = Count::default();
-    let mut arrays = Arrays::new();
+    let mut memory = Memory {
+        project: [0; PROJECT_ROOM],
+        arrays: Arrays::new(),
+        due: Arrays::new(),
+    };
     for line in lines {
-        let Some(holds) = replay_line(line, &mut arrays) else {
+        let Some(holds) = replay_line(line, &mut memory) else {
             continue;
         };
         count.add_call(holds);

@@ -8,7 +8,7 @@ ghost use Rattle.std.specs.Prelude.{◌^◌, ◌<◌};
 
 use input::read_full;
 use lines::text::Pieces;
-use lines::{Arrays, Call};
+use lines::{Arrays, Call, PROJECT_ROOM, REPLY_ROOM, REPORT_ROOM};
 use std::io;
 use std::io::Read;
 
@@ -20,8 +20,13 @@ fn print_bytes(rt: &impl Print, bytes: &[u8]) -> io::Result<()> {
 }
 
 // Makes a call and prints its number, the reply and the report.
-fn run_call(rt: &impl Print, call: Call<'_>, arrays: &mut Arrays) -> io::Result<()> {
-    let answer = arrays.run(call);
+fn run_call(
+    rt: &impl Print,
+    call: Call<'_>,
+    project: &mut [u8],
+    arrays: &mut Arrays<REPLY_ROOM, REPORT_ROOM>,
+) -> io::Result<()> {
+    let answer = arrays.run(call, project);
     print!(rt; " {} :", answer.number)?;
     print_bytes(rt, answer.reply)?;
     rt.write_all(b" :")?;
@@ -35,12 +40,17 @@ fn print_line(rt: &impl Print, line: &[u8]) -> io::Result<()> {
 }
 
 // Copies a remark, makes a call, or marks what is neither.
-fn run_line(rt: &impl Print, line: &[u8], arrays: &mut Arrays) -> io::Result<()> {
+fn run_line(
+    rt: &impl Print,
+    line: &[u8],
+    project: &mut [u8],
+    arrays: &mut Arrays<REPLY_ROOM, REPORT_ROOM>,
+) -> io::Result<()> {
     match line {
         [] => Ok(()),
         [b'#', ..] => print_line(rt, line),
         _ => match Call::read(line) {
-            Some(call) => run_call(rt, call, arrays),
+            Some(call) => run_call(rt, call, project, arrays),
             None => {
                 rt.write_all(b"? ")?;
                 print_line(rt, line)
@@ -55,9 +65,10 @@ fn run_input<const LIMIT: usize>(rt: &impl Print, input: &mut impl Read) -> io::
 {
     let mut read = [0u8; LIMIT];
     let n = read_full(input, &mut read)?;
+    let mut project = [0u8; PROJECT_ROOM];
     let mut arrays = Arrays::new();
     for line in Pieces::new(&read[..n], b'\n') {
-        run_line(rt, line, &mut arrays)?;
+        run_line(rt, line, &mut project, &mut arrays)?;
     }
     Ok(())
 }
