@@ -11,7 +11,7 @@ use sort::{entry, groups_entry};
 use text::{Pieces, value_of};
 
 // The bytes that stand before a reply or a report, and behind it.
-const AROUND: usize = 2;
+pub const AROUND: usize = 2;
 
 // What every byte of the arrays is before a call.
 const UNTOUCHED: u8 = 170;
@@ -125,6 +125,16 @@ impl<const REPLY: usize, const REPORT: usize> Arrays<REPLY, REPORT> {
             reply: [UNTOUCHED; REPLY],
             report: [UNTOUCHED; REPORT],
         }
+    }
+
+    // The arrays after a call that has written these words to the reply and to the report.
+    pub fn written(reply: &[u8], report: &[u8]) -> Self
+        requires { (AROUND ≤ REPLY) × (AROUND ≤ REPORT) }
+        ensures { (take AROUND result.reply ≡ replicate AROUND 170) × (take AROUND result.report ≡ replicate AROUND 170) }
+    {
+        let mut arrays = Arrays::new();
+        arrays.write(reply, report);
+        arrays
     }
 
     // Makes the arrays what they are after a call that has written these words to the reply and to the report.

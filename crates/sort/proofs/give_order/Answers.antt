@@ -1,3 +1,4 @@
+-- `give_order` meets its contract. Assumes nothing.
 use native.Mathlib.Omega.{arith}
 use mathlib.Core.Path.{subst}
 use lib.ListN.{length-take}
