@@ -90,6 +90,7 @@ returns-in-Err g c =
     (c.in-Err.ensures.sorts p s.earlier (sortable g one h s)))
 
 -- all groups have had their turns,
--- and the last of these is what they come to
+-- and what the last of these has left
+-- is what they come to
 pub returns : goal.returns
 returns g c = λ p groups before h. turn_end (rw c.in-None.ensures.steps.0 at (c.loop-members.invariant.1 p groups before h))
