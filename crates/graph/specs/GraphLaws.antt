@@ -16,7 +16,8 @@ use Rattle.graph.specs.Rows.{Rows, Fits, cleared, cell, Holds, Rest, Stored}
 use Rattle.graph.specs.RowLaws.{same_place, column, place, rows-sized, rows-cleared}
 use Rattle.graph.specs.Reach.{WayAdded}
 use Rattle.graph.specs.WordLaws.{transposed-none}
-use Rattle.graph.specs.Graph.{Matrices, matrices, Space, ends, is_maybe, Shows, Cleared, EdgeRoom, EdgeAdded}
+use Rattle.graph.specs.Links.{ends}
+use Rattle.graph.specs.Graph.{Matrices, matrices, Space, is_maybe, Shows, Cleared, EdgeRoom, EdgeAdded}
 
 -- The different pairs of needs, with one need more.
 add_pairs-snoc : (pairs rows : List Pair) (p : Pair) → add_pairs pairs (rows ++ (p ∷ [])) ≡ add_pair (add_pairs pairs rows) p

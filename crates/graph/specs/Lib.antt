@@ -5,6 +5,7 @@ pub mod ReachLaws
 pub mod Words
 pub mod WordLaws
 pub mod Neighbours
+pub mod Links
 pub mod Graph
 pub mod GraphLaws
 pub mod NeighbourLaws

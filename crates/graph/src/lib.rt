@@ -33,7 +33,7 @@ pub struct Graph<const WORDS: usize, const NEEDS: usize> {
     pub ghost size: { length into ≡ 64 },
     pub ghost same: { (reach.words ≡ weak.words) × (paths.words ≡ weak.words) },
     pub ghost fits: { Fits WORDS weak.words nodes },
-    pub ghost bounds: { (WORDS ≤ 65536) × (NEEDS < 65536) },
+    pub ghost bounds: { WORDS ≤ 65536 },
 }
 
 // Notes the weight of the pair (x, y): whether it is Maybe.
@@ -57,7 +57,7 @@ impl<const WORDS: usize, const NEEDS: usize> Graph<WORDS, NEEDS> {
 
     // No items.
     pub fn new() -> Self
-        requires bounds { (WORDS ≤ 65536) × (NEEDS < 65536) }
+        requires bounds { WORDS ≤ 65536 }
         ensures none { result.nodes ≡ 0 }
     {
         Self {
@@ -128,11 +128,18 @@ impl<const WORDS: usize, const NEEDS: usize> Graph<WORDS, NEEDS> {
         ensures linked { Linked self.old self.new }
     {
         let nodes = self.nodes;
-        let count = self.pairs.count;
-        self.outgoing.clear(nodes);
-        self.outgoing.link(&self.pairs.from[..count]);
-        self.incoming.clear(nodes);
-        self.incoming.link(&self.pairs.to[..count]);
+        let outgoing = &mut self.outgoing;
+        let incoming = &mut self.incoming;
+        neighbours::links(
+            &self.pairs.from[..],
+            &self.pairs.to[..],
+            self.pairs.count,
+            nodes,
+            &mut outgoing.heads[..],
+            &mut outgoing.next[..],
+            &mut incoming.heads[..],
+            &mut incoming.next[..],
+        );
     }
 
     // Lays out so many items without needs: only what a walk reads is cleared, and what the other arrays hold is left free.

@@ -31,7 +31,7 @@ impl<const WORDS: usize, const NEEDS: usize, const ENTRIES: usize> Sort<WORDS, N
 
     // No items.
     pub fn new() -> Self
-        requires bounds { (WORDS ≤ 65536) × (NEEDS < 65536) }
+        requires bounds { WORDS ≤ 65536 }
         ensures none { (result.group.graph.nodes ≡ 0) × (result.group.split.count ≡ 0) }
     {
         Self {

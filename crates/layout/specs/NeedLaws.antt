@@ -5,11 +5,11 @@ use Rattle.std.specs.Prelude.{◌≡◌, refl, Bool, true, false, ◌&&◌, Some
 use Rattle.std.proofs.Math.Path.{ap, subst}
 use Rattle.std.proofs.Math.Bool.{and-false}
 use mathlib.Core.List.{List, [], ◌∷◌, ◌++◌, map, reverse, reverse-cons, append_assoc, append-nil}
-use Rattle.std.proofs.lemmas.List.{length-map}
+use Rattle.std.proofs.lemmas.List.{length-map, length-reverse}
 use Rattle.rules.specs.Lists.{cons_if, keep, elem}
 use Rattle.rules.specs.Project.{Need}
 use Rattle.rules.specs.Items.{number_of, is_among, numbered}
-use Rattle.laws.specs.Lists.{Tested, holds, fails, tested}
+use Rattle.laws.specs.Lists.{Tested, holds, fails, tested, length-parts}
 use Rattle.laws.specs.Orders.{and-true}
 use Rattle.project.specs.Decoded.{need_row_at, need_in}
 use Rattle.project.specs.declared.sections.NeedRow.{NeedRow}
@@ -133,3 +133,13 @@ module _ {rows section left : List ℕ} {needs : List Need} {s : Split} {WORDS N
     where
       adds-some : add_needs rows [] needs ≡ reverse (needs_among rows needs)
       adds-some = adds-all rows [] needs ∙ append-nil (reverse (needs_among rows needs))
+
+-- No more needs are laid out than there are.
+pub among-few : (rows : List ℕ) (needs : List Need) → length (reverse (needs_among rows needs)) ≤ length needs
+among-few rows needs =
+    omega (
+      arith,
+      length-reverse (needs_among rows needs),
+      length-map (keep (is_among rows) needs) (numbered rows),
+      length-parts (is_among rows) needs,
+    )

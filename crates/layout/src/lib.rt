@@ -32,7 +32,7 @@ impl<const WORDS: usize, const NEEDS: usize> Group<WORDS, NEEDS> {
 
     // No items.
     pub fn new() -> Self
-        requires bounds { (WORDS ≤ 65536) × (NEEDS < 65536) }
+        requires bounds { WORDS ≤ 65536 }
         ensures none { (result.graph.nodes ≡ 0) × (result.split.count ≡ 0) }
     {
         Self {

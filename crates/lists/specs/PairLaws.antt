@@ -60,6 +60,16 @@ length-add_pair pairs p = go (tested (holds_pair p pairs))
     go (holds e) = rw (add_pair-old pairs p e) (omega arith)
     go (fails e) = rw (add_pair-new pairs p e) (omega (arith, length-append pairs (p ∷ [])))
 
+adds-most : (pairs rows : List Pair) → length (add_pairs pairs rows) ≤ length pairs + length rows
+unfolding add_pairs
+adds-most pairs [] = omega arith
+adds-most pairs (p ∷ rows) = omega (arith, adds-most (add_pair pairs p) rows, length-add_pair pairs p)
+
+-- There are at most as many different pairs as pairs.
+pub different-most : (rows : List Pair) → length (different_pairs rows) ≤ length rows
+unfolding different_pairs
+different-most rows = omega (arith, adds-most [] rows)
+
 or_swap : (a b c : Bool) → (a || (b || c)) ≡ (b || (a || c))
 or_swap true b c = sym (or-true b)
 or_swap false b c = refl

@@ -5,6 +5,8 @@ ghost use Rattle.std.specs.Iterator.{YieldsFirst, item_count};
 ghost use Rattle.lists.specs.Chained.{Ascends, Leads, places};
 ghost use Rattle.lists.specs.Pairs.{Linkable, Linked};
 
+use super::pairs;
+
 // The places of one chain, which ascend.
 #[derive(Clone, Copy)]
 pub struct Chain<'a> {
@@ -96,9 +98,7 @@ impl<const KEYS: usize, const PLACES: usize> Chains<KEYS, PLACES> {
         requires { Linkable keys.now (length keys.now) self.old.heads self.old.next }
         ensures { Linked 0 keys.now (length keys.now) self.old.heads self.old.next self.new.heads self.new.next }
     {
-        for (place, &key) in keys.iter().enumerate().rev() {
-            self.put_first(usize::from(key), place);
-        }
+        pairs::link(keys, &mut self.heads, &mut self.next);
     }
 
     // The chain of a key.

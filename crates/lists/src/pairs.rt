@@ -1,6 +1,6 @@
-// Different pairs of numbers in the order in which they were first added.
+// Different pairs of numbers in the order in which they were first added, and the chains of pairs that have one number.
 ghost use Rattle.std.specs.Prelude.{ℕ, ◌≤◌, ◌≡◌, ◌++◌, length, get_or, drop, replicate};
-ghost use Rattle.lists.specs.Pairs.{Room, Added};
+ghost use Rattle.lists.specs.Pairs.{Room, Added, Linkable, Linked};
 
 use super::bits;
 
@@ -58,5 +58,18 @@ impl<const WORDS: usize, const PLACES: usize> Pairs<WORDS, PLACES> {
         self.from[place] = a;
         self.to[place] = b;
         self.count = place + 1;
+    }
+}
+
+// Chains the places of keys: heads[k] is one more than the first place of key k, next[i] one more than the next place of the key at place i, and 0 stands
+// for none. What `next` holds behind them, and the heads of other keys, may be anything.
+pub fn link(keys: &[u16], heads: &mut [u16], next: &mut [u16])
+    requires { Linkable keys.now (length keys.now) heads.old next.old }
+    ensures { Linked 0 keys.now (length keys.now) heads.old next.old heads.new next.new }
+{
+    for (place, &number) in keys.iter().enumerate().rev() {
+        let key = usize::from(number);
+        next[place] = heads[key];
+        heads[key] = (place + 1) as u16;
     }
 }

@@ -6,7 +6,7 @@ use borrow.Rule.Slice.PartMut.{put_mid}
 use mathlib.Core.List.{List, flat_map, append_assoc}
 use Rattle.std.proofs.lemmas.List.Edits.{sets}
 use Rattle.std.proofs.Math.Seq.{sets-eq}
-use Rattle.rules.specs.Calls.{Answer, overwrite, bytes32, report_bytes, reported}
+use Rattle.rules.specs.Calls.{groups_call, groups_entry, Answer, overwrite, bytes32, report_bytes, reported}
 use Rattle.laws.specs.Entries.{reported-short, reported-long}
 use Rattle.sort.specs.declared.Numbers.{Numbers}
 use Rattle.sort.specs.Answers.{numbers_of, Answered}
@@ -47,3 +47,8 @@ module _ (a : Answer) (reply report : List ℕ) where
       → entry_of r.answer after full ≡ reported a reply report
   entered-long {r = r} h k e =
       rw (reported-long a reply report (le-ltb (length report) 20 h), k.numbers, k.reply, e) refl
+
+-- The groups entry answers a short report with 13.
+pub groups-short : (bytes reply report : List ℕ) (allowance : ℕ) → length report < 20 → entry_of 13 reply report ≡ groups_entry bytes reply report allowance
+unfolding groups_entry
+groups-short bytes reply report allowance = entered-short (groups_call bytes (length reply) allowance) reply report

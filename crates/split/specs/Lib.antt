@@ -3,6 +3,7 @@ pub mod Stored
 pub mod Pushed
 pub mod Rows
 pub mod Splits
+pub mod FirstSlices
 pub mod FirstLists
 pub mod RowLaws
 pub mod StoreLaws

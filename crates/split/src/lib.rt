@@ -6,8 +6,10 @@ pub mod rows;
 ghost use Rattle.std.specs.Prelude.{ℕ, ◌+◌, ◌-◌, ◌≤◌, ◌<◌, ◌≡◌, length};
 ghost use Rattle.rules.specs.Lists.{up_from};
 ghost use Rattle.rules.specs.Project.{Project, module_limit, item_limit};
+ghost use Rattle.rules.specs.Items.{Group, first_list as first_list_of};
 ghost use Rattle.split.specs.Rows.{kept_as};
 ghost use Rattle.split.specs.Pushed.{Pushed};
+ghost use Rattle.split.specs.FirstSlices.{held_by, StartsWithin, ListableOn, FirstListed};
 
 use project::kinds::KindByte;
 use project::sections::{ItemRow, Row};
@@ -44,6 +46,39 @@ pub fn push_entries(entries: &[u16], list: &mut [u16], end: usize) -> usize
     end + entries.len()
 }
 
+// Puts the range holding each start in front of a list, that of the first start foremost; the list's end then. Where no range holds it, there are no
+// numbers from `low` on and below `high`.
+fn push_ranges(low: &[u16], high: &[u16], starts: &[u16], list: &mut [u16], end: usize) -> usize
+    requires { (g : Group) × StartsWithin g low.now high.now starts.now × (end + length (held_by g starts.now) ≤ length list.old) }
+    ensures { (g : Group) → StartsWithin g low.now high.now starts.now → Pushed (held_by g starts.now) list.old end list.new result }
+{
+    let mut n = end;
+    for &start in starts.iter().rev() {
+        let x = usize::from(start);
+        n = push_numbers(usize::from(low[x]), usize::from(high[x]), list, n);
+    }
+    n
+}
+
+// Writes the walk's first list, its front at the end index; the end. "The list starts as all starts; then, per start, the range holding it, if any;
+// then the injected items." There may be any number of starts, one for each module. The injected items are the numbers from `uninjected` on and below
+// `count`.
+pub fn first_list(
+    low: &[u16],
+    high: &[u16],
+    starts: &[u16],
+    uninjected: usize,
+    count: usize,
+    list: &mut [u16],
+) -> usize
+    requires { (g : Group) × ListableOn g low.now high.now starts.now uninjected count × (length (first_list_of g) ≤ length list.old) }
+    ensures { (g : Group) → ListableOn g low.now high.now starts.now uninjected count → FirstListed g list.old list.new result }
+{
+    let injected = push_numbers(uninjected, count, list, 0);
+    let ranges = push_ranges(low, high, starts, list, injected);
+    push_entries(starts, list, ranges)
+}
+
 // The split on arrays, each read by place. Of each number below `count` there are the row, the kind and the range of its module, from `low` to `high`
 // without `high`. The injected numbers, those from `uninjected` on, have no range. Of each module there is the start of its range. Kinds are bytes: the
 // definitions of the split speak of lists of numbers, and a byte is wrapped where it is read.
@@ -63,12 +98,12 @@ pub struct Split {
 
 impl Split {
     ghost use Rattle.std.specs.Prelude.{false, true};
-    ghost use Rattle.rules.specs.Items.{Group, first_list};
+    ghost use Rattle.rules.specs.Items.{first_list};
     ghost use Rattle.rules.specs.Calls.{item_list_limit};
     ghost use Rattle.lists.specs.Arrays.{Zeros};
     ghost use Rattle.split.specs.Rows.{RowsOf, RowsAmong, rows_as, numbered_as};
     ghost use Rattle.split.specs.Splits.{Numbered, SameRanges, SameNumbers, RangeNoted, RangesNumbered, InjectedNumbered, Splittable, Splits, SplitStored};
-    ghost use Rattle.split.specs.FirstLists.{held_by, starts_on, Listable, FirstListed};
+    ghost use Rattle.split.specs.FirstLists.{starts_on, Listable};
 
     // No items.
     pub fn new() -> Self
@@ -181,28 +216,19 @@ impl Split {
         n
     }
 
-    // Puts the range holding each start in front of a list, that of the first start foremost; the list's end then. Where no range holds it, there are no
-    // numbers from `low` on and below `high`.
-    fn push_ranges(&self, list: &mut [u16], end: usize) -> usize
-        requires { (g : Group) × Listable g self.now × (end + length (held_by g (starts_on self.now)) ≤ length list.old) }
-        ensures { (g : Group) → Listable g self.now → Pushed (held_by g (starts_on self.now)) list.old end list.new result }
-    {
-        let mut n = end;
-        for &start in self.starts().iter().rev() {
-            let x = usize::from(start);
-            n = push_numbers(usize::from(self.low[x]), usize::from(self.high[x]), list, n);
-        }
-        n
-    }
-
     // Writes the walk's first list, its front at the end index; the end. "The list starts as all starts; then, per start, the range holding it, if any;
     // then the injected items."
     pub fn first_list(&self, list: &mut [u16]) -> usize
         requires { (g : Group) × Listable g self.now × (length (first_list g) ≤ length list.old) }
         ensures { (g : Group) → Listable g self.now → FirstListed g list.old list.new result }
     {
-        let injected = push_numbers(self.uninjected, self.count, list, 0);
-        let ranges = self.push_ranges(list, injected);
-        push_entries(self.starts(), list, ranges)
+        first_list(
+            &self.low,
+            &self.high,
+            self.starts(),
+            self.uninjected,
+            self.count,
+            list,
+        )
     }
 }

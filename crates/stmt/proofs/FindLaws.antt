@@ -1,6 +1,6 @@
 -- Laws of steps 2 and 3: which dependencies of an item are open, and stay. Assumes nothing.
 use Rattle.std.specs.Prelude.{ℕ, suc, ◌+◌, ◌≤◌, ◌<◌, ◌≡◌, Bool, true, false, not, ◌&&◌, eqb, leb, ltb, length, take, set}
-use Rattle.std.proofs.Common.{arith, refl, sym, ap, subst, ◌∙◌, add-one, length-append, length-take, take-suc-set}
+use Rattle.std.proofs.Common.{arith, refl, sym, ap, subst, ◌∙◌, add-one, length-append, length-set, length-take, take-suc-set}
 use Rattle.std.proofs.Math.Bool.{and_assoc, and-false}
 use Rattle.std.proofs.Math.Seq.{append_snoc}
 use mathlib.Core.List.Memᴰ
@@ -16,12 +16,12 @@ use Rattle.laws.specs.Orders.{and-true}
 use Rattle.laws.proofs.ItemWalk.{dependencies_of-∈}
 use Rattle.graph.specs.Graph.{is_maybe}
 use Rattle.split.specs.Shown.{RangeIs}
-use Rattle.layout.specs.declared.Group.{Group as GroupArrays}
-use Rattle.stmt.specs.declared.arrays.Arrays.{Arrays}
+use Rattle.stmt.specs.declared.slices.Reads.{Reads}
 use Rattle.stmt.specs.declared.walk.ItemWalk.{ItemWalk}
 use Rattle.stmt.specs.declared.steps.Item.{Item}
 use Rattle.stmt.proofs.StateLaws.{Moved, was_fresh, was-moved, same_moved, moved-again, walking-same, walking-moved, walking-open}
-use Rattle.stmt.specs.Walks.{moved_of, with_moved, Walking, width, ItemIs, Skipped, stays, staying, Found}
+use Rattle.stmt.specs.Walks.{moved_of, with_moved, ItemIs, stays, staying}
+use Rattle.stmt.specs.Slices.{Written, Walking, Skipped, Found}
 
 -- Whether a dependency is in x's range.
 pub range-test : {g : Group} {x low high : ℕ} (d : ℕ) → RangeIs g x low high → same_range g x d ≡ (leb low d && ltb d high)
@@ -33,7 +33,7 @@ with_none : (d : ℕ) (o : Opened) → with_open false d o ≡ o
 unfolding with_open cons_if
 with_none d (opened dependencies moved) = refl
 
-module _ {WORDS NEEDS ENTRIES : ℕ} {g : Group} {group : GroupArrays WORDS NEEDS} {a : Arrays WORDS ENTRIES} {w : ItemWalk} {s : ItemState}
+module _ {g : Group} {group : Reads} {a : Written} {w : ItemWalk} {s : ItemState}
     (h : Walking g group a w s) {x : Item} (i : ItemIs g x) (d : ℕ) where
   pub skipped-inside : (leb x.low d && ltb d x.high) ≡ true → Skipped g group a w s x.id.0 d true
   unfolding find_open
@@ -64,19 +64,19 @@ module _ {WORDS NEEDS ENTRIES : ℕ} {g : Group} {group : GroupArrays WORDS NEED
       passed-pathless k =
           record { after = moved_of s; walking = walking-same h; step = λ placed rest. rw (outside, uninjected, k, find_open) }
 
-      pub skipped-noted : {a' : Arrays WORDS ENTRIES} {r : Bool} → path_holds g d x.id.0 ≡ true → Moved (size g) (width group) a' w s x.id.0 d r
+      pub skipped-noted : {a' : Written} {r : Bool} → path_holds g d x.id.0 ≡ true → a'.«open» ≡ a.«open» → Moved (size g) group.width a' w s x.id.0 d r
           → Skipped g group a' w s x.id.0 d r
       unfolding find_open
-      skipped-noted k (was_fresh fresh shows) =
+      skipped-noted k o (was_fresh fresh shows) =
           record {
             after = (x.id.0, d) ∷ moved_of s;
-            walking = walking-moved h ((x.id.0, d) ∷ moved_of s) shows;
+            walking = walking-moved h ((x.id.0, d) ∷ moved_of s) (ap length o) shows;
             step = λ placed rest. rw (outside, uninjected, k, fresh, find_open);
           }
-      skipped-noted k (was-moved old shows) =
+      skipped-noted k o (was-moved old shows) =
           record {
             after = moved_of s;
-            walking = walking-moved h (moved_of s) (rw (same_moved s) shows);
+            walking = walking-moved h (moved_of s) (ap length o) (rw (same_moved s) shows);
             step = λ placed rest. rw (outside, uninjected, k, old, find_open) (sym (with_none d (find_open g placed x.id.0 rest (moved_of s))));
           }
 
@@ -172,16 +172,16 @@ found-most {g} items x pairs found o f e =
     )
 
 -- In the midst of finding: those found so far, with those that the dependencies left will give, are those of the definition.
-pub record Finding {WORDS NEEDS ENTRIES : ℕ} (g : Group) (group : GroupArrays WORDS NEEDS) (a : Arrays WORDS ENTRIES) (w : ItemWalk) (s : ItemState)
+pub record Finding (g : Group) (group : Reads) (a : Written) (w : ItemWalk) (s : ItemState)
     (x count : ℕ) (left : List ℕ) : Type 0 where
   pub after : List (ℕ × ℕ)
   pub walking : Walking g group a w (with_moved after s)
   pub below : Below (size g) left
-  pub within : count ≤ item_limit
+  pub within : count ≤ length a.«open»
   pub same : staying g x (find_open g (placed_of s) x (dependencies_of g.needs x) (moved_of s))
       ≡ joined (take count a.«open») (staying g x (find_open g (placed_of s) x left after))
 
-module _ {WORDS NEEDS ENTRIES : ℕ} {g : Group} {group : GroupArrays WORDS NEEDS} {a : Arrays WORDS ENTRIES} {w : ItemWalk} {s : ItemState} where
+module _ {g : Group} {group : Reads} {a : Written} {w : ItemWalk} {s : ItemState} where
   pub finding-start : (x : ℕ) {left : List ℕ} → left ≡ dependencies_of g.needs x → Walking g group a w s → Finding g group a w s x 0 left
   finding-start x {left} e h =
       record {
@@ -195,7 +195,7 @@ module _ {WORDS NEEDS ENTRIES : ℕ} {g : Group} {group : GroupArrays WORDS NEED
   pub finding-rest : {x count : ℕ} {left left' : List ℕ} → left ≡ left' → Finding g group a w s x count left → Finding g group a w s x count left'
   finding-rest {x} {count} e f = subst (λ (l : List ℕ). Finding g group a w s x count l) e f
 
-  module _ {x count d : ℕ} {rest : List ℕ} (f : Finding g group a w s x count (d ∷ rest)) {a' : Arrays WORDS ENTRIES} {r : Bool}
+  module _ {x count d : ℕ} {rest : List ℕ} (f : Finding g group a w s x count (d ∷ rest)) {a' : Written} {r : Bool}
       (k : Skipped g group a' w (with_moved f.after s) x d r) (kept : a'.«open» ≡ a.«open») where
     abbrev left : Opened
     left = staying g x (find_open g (placed_of s) x rest k.after)
@@ -222,7 +222,7 @@ module _ {WORDS NEEDS ENTRIES : ℕ} {g : Group} {group : GroupArrays WORDS NEED
           after = k.after;
           walking = walking-next;
           below = below-rest;
-          within = f.within;
+          within = rw kept f.within;
           same =
               rw kept
               (same_next ∙ ap (joined (take count a.«open»)) (ap (λ (b : Bool). with_open b d left) t ∙ with_none d left));
@@ -241,7 +241,19 @@ module _ {WORDS NEEDS ENTRIES : ℕ} {g : Group} {group : GroupArrays WORDS NEED
           ∙ ap (λ (b : Bool). joined (take count a.«open») (with_open b d left)) (and-true unskipped stay)
           ∙ joined-with (take count a.«open») d left
 
-      pub finding-room : count < item_limit
+      pub finding-few : count < item_limit
+      finding-few =
+          let t = f.walking.shows.pairs in omega (
+            arith,
+            found-most (placed_of s) x (moved_of s) (take count a.«open» ++ (d ∷ [])) left f.walking.laid.formed same_kept,
+            length-append (take count a.«open») (d ∷ []),
+            length-take count a.«open»,
+            f.within,
+            t.within,
+            t.most,
+          )
+
+      pub finding-room : count < length a.«open»
       finding-room =
           omega (
             arith,
@@ -249,21 +261,20 @@ module _ {WORDS NEEDS ENTRIES : ℕ} {g : Group} {group : GroupArrays WORDS NEED
             length-append (take count a.«open») (d ∷ []),
             length-take count a.«open»,
             f.within,
-            f.walking.shows.most,
-            a.open_size,
+            f.walking.room,
           )
 
-      pub finding-kept : (a'' : Arrays WORDS ENTRIES) → a''.placed ≡ a'.placed → a''.moved ≡ a'.moved → a''.order ≡ a'.order → a''.list ≡ a'.list
+      pub finding-kept : (a'' : Written) → a''.placed ≡ a'.placed → a''.moved ≡ a'.moved → a''.order ≡ a'.order → a''.list ≡ a'.list
           → a''.«open» ≡ set a'.«open» count d → Finding g group a'' w s x (count + 1) rest
       finding-kept a'' p m o l q =
           record {
             after = k.after;
-            walking = walking-open walking-next a'' p m o l;
+            walking = walking-open walking-next a'' p m o l (rw q (simp length-set refl));
             below = below-rest;
-            within = omega (arith, finding-room);
+            within = rw (q, kept) (simp length-set (omega (arith, finding-room)));
             same =
                 rw (q, kept)
-                (same_kept ∙ ap (λ (q : List ℕ). joined q left) (sym (rw add-one (take-suc-set a.«open» count d (omega (arith, finding-room, a.open_size))))));
+                (same_kept ∙ ap (λ (q : List ℕ). joined q left) (sym (rw add-one (take-suc-set a.«open» count d (omega (arith, finding-room))))));
           }
 
   pub finding-end : {x count : ℕ} → Finding g group a w s x count [] → Found g group a w s x count
@@ -273,6 +284,6 @@ module _ {WORDS NEEDS ENTRIES : ℕ} {g : Group} {group : GroupArrays WORDS NEED
       record {
         after = f.after;
         walking = f.walking;
-        within = omega (arith, found-most (placed_of s) x (moved_of s) (take count a.«open») (opened [] f.after) f.walking.laid.formed f.same, length-take count a.«open», f.within, a.open_size);
+        within = omega (arith, found-most (placed_of s) x (moved_of s) (take count a.«open») (opened [] f.after) f.walking.laid.formed f.same, length-take count a.«open», f.within);
         found = all;
       }

@@ -1,3 +1,4 @@
+mod AlongLaws
 mod StateLaws
 mod FindLaws
 mod PrecedingLaws
@@ -5,3 +6,4 @@ mod PushLaws
 mod VisitLaws
 mod RunLaws
 mod StartLaws
+mod LendLaws

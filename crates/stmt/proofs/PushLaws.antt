@@ -13,10 +13,10 @@ use Rattle.laws.specs.Splits.{size, WellFormed}
 use Rattle.laws.specs.Counting.{Below, below_length}
 use Rattle.laws.proofs.ItemWalk.{dependants_of-∈}
 use Rattle.lists.specs.Bits.{bit_at}
-use Rattle.layout.specs.declared.Group.{Group as GroupArrays}
-use Rattle.stmt.specs.declared.arrays.Arrays.{Arrays}
+use Rattle.stmt.specs.declared.slices.Reads.{Reads}
 use Rattle.stmt.specs.declared.walk.ItemWalk.{ItemWalk}
-use Rattle.stmt.specs.Walks.{with_list, Shows, Laid, width, Fits, Pushed, pushed, no_room}
+use Rattle.stmt.specs.Walks.{with_list, Fits}
+use Rattle.stmt.specs.Slices.{Written, Shows, Laid, Pushed, pushed, no_room}
 use Rattle.stmt.proofs.StateLaws.{entry-count, same_list, list-again}
 
 -- whether a dependant is waiting
@@ -24,9 +24,9 @@ abbrev pub is_waiting : Group → List ℕ → ℕ → Bool
 is_waiting g items d = is_injected (kind_of g d) && not (elem d items)
 
 -- What the test by its kind and the row of items placed says.
-pub waiting-is : {WORDS NEEDS ENTRIES : ℕ} {g : Group} {group : GroupArrays WORDS NEEDS} {a : Arrays WORDS ENTRIES} {w : ItemWalk} {s : ItemState}
-    → Laid g group → Shows (size g) (width group) a w s → {r b : Bool} (d : ℕ) → d < size g
-    → r ≡ (is_injected (get_or group.split.kinds d 0) && not (bit_at a.placed d)) → r ≡ b → is_waiting g (placed_of s) d ≡ b
+pub waiting-is : {g : Group} {group : Reads} {a : Written} {w : ItemWalk} {s : ItemState}
+    → Laid g group → Shows (size g) group.width a w s → {r b : Bool} (d : ℕ) → d < size g
+    → r ≡ (is_injected (get_or group.kinds.now d 0) && not (bit_at a.placed d)) → r ≡ b → is_waiting g (placed_of s) d ≡ b
 waiting-is laid h d f e k = sym (rw (laid.kinds-shown.each d f, h.items.bits d f) at e) ∙ k
 
 dependants-below : {g : Group} → WellFormed g → (x : ℕ) → Below (size g) (dependants_of g.needs x)
@@ -51,15 +51,15 @@ pub waiting-entries : {g : Group} → WellFormed g → (items : List ℕ) (x : �
 waiting-entries {g} f items x list = omega (arith, one_by_one-length (waiting g items x) list, waiting-most f items x)
 
 -- In the midst of pushing: with those that wait of the dependants left pushed the list is as it is to be.
-pub record Pushing {WORDS NEEDS ENTRIES : ℕ} (g : Group) (group : GroupArrays WORDS NEEDS) (a : Arrays WORDS ENTRIES) (w : ItemWalk) (s : ItemState)
+pub record Pushing (g : Group) (group : Reads) (a : Written) (w : ItemWalk) (s : ItemState)
     (x : ℕ) (left : List ℕ) : Type 0 where
   pub entries : List ℕ
-  pub shows : Shows (size g) (width group) a w (with_list entries s)
+  pub shows : Shows (size g) group.width a w (with_list entries s)
   pub below : Below (size g) left
   pub same : one_by_one (keep (is_waiting g (placed_of s)) left) entries ≡ one_by_one (waiting g (placed_of s) x) (item_list s)
 
-module _ {WORDS NEEDS ENTRIES : ℕ} {g : Group} {group : GroupArrays WORDS NEEDS} {a : Arrays WORDS ENTRIES} {w : ItemWalk} {s : ItemState} {x : ℕ} where
-  pub pushing-start : {left : List ℕ} → left ≡ dependants_of g.needs x → WellFormed g → Shows (size g) (width group) a w s → Pushing g group a w s x left
+module _ {g : Group} {group : Reads} {a : Written} {w : ItemWalk} {s : ItemState} {x : ℕ} where
+  pub pushing-start : {left : List ℕ} → left ≡ dependants_of g.needs x → WellFormed g → Shows (size g) group.width a w s → Pushing g group a w s x left
   unfolding waiting
   pushing-start e f h =
       record {
@@ -93,25 +93,25 @@ module _ {WORDS NEEDS ENTRIES : ℕ} {g : Group} {group : GroupArrays WORDS NEED
           omega (arith, ap length (same_turn t), one_by_one-length (d ∷ more) p.entries)
 
       -- no more dependants wait than there are items
-      pub pushing-room : WellFormed g → {end : ℕ} → length (item_list s) ≡ end → w.end < item_list_limit → Fits (end + size g) ENTRIES → w.end < ENTRIES
+      pub pushing-room : WellFormed g → {end : ℕ} → length (item_list s) ≡ end → w.end < item_list_limit → Fits (end + size g) (length a.list) → w.end < length a.list
       unfolding item_list
       pushing-room f {end} k h fits =
           let room = fits (w.end + 1) (omega arith) (omega (arith, one_more, entry-count p.shows, waiting-entries f (placed_of s) x (item_list s))) in
           omega arith
 
-      pub pushing-one : {a' : Arrays WORDS ENTRIES} {w' : ItemWalk}
-          → Shows (size g) (width group) a' w' (with_list (d ∷ item_list (with_list p.entries s)) (with_list p.entries s))
+      pub pushing-one : {a' : Written} {w' : ItemWalk}
+          → Shows (size g) group.width a' w' (with_list (d ∷ item_list (with_list p.entries s)) (with_list p.entries s))
           → Pushing g group a' w' s x rest
       unfolding cons_if one_by_one item_list
       pushing-one k = record { entries = d ∷ p.entries; shows = rw (list-again (d ∷ p.entries) p.entries s) at k; below = below-rest; same = same_turn t }
 
-      pub pushing-full : w.end ≡ item_list_limit → {a' : Arrays WORDS ENTRIES}
-          → Pushed (size g) (width group) a' (one_by_one (waiting g (placed_of s) x) (item_list s)) s None
+      pub pushing-full : w.end ≡ item_list_limit → {a' : Written}
+          → Pushed (size g) group.width a' (one_by_one (waiting g (placed_of s) x) (item_list s)) s None
       unfolding item_list
       pushing-full h = no_room (omega (arith, one_more, entry-count p.shows))
 
   pub pushing-end : {left : List ℕ} → left ≡ [] → Pushing g group a w s x left
-      → Pushed (size g) (width group) a (one_by_one (waiting g (placed_of s) x) (item_list s)) s (Some w)
+      → Pushed (size g) group.width a (one_by_one (waiting g (placed_of s) x) (item_list s)) s (Some w)
   unfolding keep one_by_one
   pushing-end e p =
       let all = sym (ap (λ (l : List ℕ). one_by_one (keep (is_waiting g (placed_of s)) l) p.entries) e) ∙ p.same in

@@ -11,16 +11,16 @@ use Rattle.laws.specs.Counting.{below_length, below-cons}
 use Rattle.laws.specs.Splits.{size}
 use Rattle.laws.proofs.Splits.{Found as InRanges, found, nowhere, range_of-found}
 use Rattle.project.specs.declared.NodeId.{NodeId}
-use Rattle.layout.specs.declared.Group.{Group as GroupArrays}
-use Rattle.stmt.specs.declared.arrays.Arrays.{Arrays}
+use Rattle.stmt.specs.declared.slices.Reads.{Reads}
 use Rattle.stmt.specs.declared.walk.ItemWalk.{ItemWalk}
 use Rattle.stmt.specs.declared.steps.Item.{Item}
-use Rattle.stmt.specs.Walks.{moved_of, with_list, with_moved, Shows, width, Walking, Fits, Room, ItemIs, Ranged, staying, Found, Pushed, pushed, no_room, First, none, first}
+use Rattle.stmt.specs.Walks.{moved_of, with_list, with_moved, Fits, Room, ItemIs, Ranged, staying, First, none, first}
+use Rattle.stmt.specs.Slices.{Written, Shows, Walking, Found, Pushed, pushed, no_room}
 use Rattle.stmt.proofs.StateLaws.{Moved, was_fresh, was-moved, entry-count, some-entry, shows-passed}
 use Rattle.stmt.proofs.PushLaws.{waiting-entries}
 
 -- What pushing came to.
-module _ {WORDS ENTRIES n width : ℕ} {a : Arrays WORDS ENTRIES} {entries : List ℕ} {s : ItemState} {o : Option ItemWalk} where
+module _ {n width : ℕ} {a : Written} {entries : List ℕ} {s : ItemState} {o : Option ItemWalk} where
   pub pushed-shows : {w : ItemWalk} → o ≡ Some w → Pushed n width a entries s o → Shows n width a w (with_list entries s)
   pushed-shows {w} e p = go (subst (Pushed n width a entries s) e p)
     where
@@ -34,7 +34,7 @@ module _ {WORDS ENTRIES n width : ℕ} {a : Arrays WORDS ENTRIES} {entries : Lis
       go (no_room h) = h
 
 -- The item in front.
-module _ {WORDS NEEDS ENTRIES : ℕ} {g : Group} {group : GroupArrays WORDS NEEDS} {a : Arrays WORDS ENTRIES} {w : ItemWalk} {x : ℕ}
+module _ {g : Group} {group : Reads} {a : Written} {w : ItemWalk} {x : ℕ}
     {rest items : List ℕ} {pairs : List (ℕ × ℕ)} (h : Walking g group a w (item_state (x ∷ rest) items pairs)) where
   pub front_below : x < size g
   unfolding item_list
@@ -43,16 +43,16 @@ module _ {WORDS NEEDS ENTRIES : ℕ} {g : Group} {group : GroupArrays WORDS NEED
   pub entry-left : 0 < w.end
   entry-left = some-entry h.shows
 
-  pub taken : {r : ItemWalk} → r ≡ record { end = w.end - 1; placed = w.placed } → Shows (size g) (width group) a r (item_state rest items pairs)
+  pub taken : {r : ItemWalk} → r ≡ record { end = w.end - 1; placed = w.placed } → Shows (size g) group.width a r (item_state rest items pairs)
   taken e = rw e (shows-passed h.shows)
 
-  pub taken-room : {r : ItemWalk} → r ≡ record { end = w.end - 1; placed = w.placed } → Room (size g) ENTRIES w.end → Fits (r.end + size g) ENTRIES
+  pub taken-room : {r : ItemWalk} → r ≡ record { end = w.end - 1; placed = w.placed } → Room (size g) (length a.list) w.end → Fits (r.end + size g) (length a.list)
   taken-room e room k f m = room k f (omega (arith, ap (λ (w : ItemWalk). w.end) e))
 
   -- two more entries fit behind those that wait
-  pub two_fit : {a' : Arrays WORDS ENTRIES} {w' : ItemWalk}
-      → Shows (size g) (width group) a' w' (with_list (one_by_one (waiting g items x) rest) (item_state rest items pairs))
-      → Room (size g) ENTRIES w.end → w'.end + 2 ≤ item_list_limit → w'.end + 2 ≤ ENTRIES
+  pub two_fit : {a' : Written} {w' : ItemWalk}
+      → Shows (size g) group.width a' w' (with_list (one_by_one (waiting g items x) rest) (item_state rest items pairs))
+      → Room (size g) (length a.list) w.end → w'.end + 2 ≤ item_list_limit → w'.end + 2 ≤ length a.list
   unfolding item_list
   two_fit {w' = w'} k room most =
       room (w'.end + 2) most (omega (arith, entry-count k, waiting-entries h.laid.formed items x rest, entry-count h.shows))
@@ -96,7 +96,7 @@ module _ (g : Group) (x : ℕ) (rest items : List ℕ) (pairs : List (ℕ × ℕ
         let k = keep-∈ (λ p. not (elem p items) && ltb p x && not (has_moved pairs x p)) (numbers_of (range_of g.ranges x)) m in
         not-true (both {a = not (elem p.0 items) && ltb p.0 x} k.1).1
 
-    pub noted-shows : {WORDS ENTRIES n width : ℕ} {a : Arrays WORDS ENTRIES} {w : ItemWalk} {list : List ℕ} {b : Bool}
+    pub noted-shows : {n width : ℕ} {a : Written} {w : ItemWalk} {list : List ℕ} {b : Bool}
         → Moved n width a w (item_state list items pairs) x p.0 b → Shows n width a w (with_moved ((x, p.0) ∷ pairs) (item_state list items pairs))
     unfolding moved_of
     noted-shows (was_fresh f h) = h
@@ -132,7 +132,7 @@ module _ (g : Group) (x : ℕ) (list items : List ℕ) {after : List (ℕ × ℕ
       rw (empty, i, after_open, same)
 
 -- The visit of an item that is not placed, by what stays open.
-module _ {WORDS NEEDS ENTRIES : ℕ} {g : Group} {group : GroupArrays WORDS NEEDS} {a : Arrays WORDS ENTRIES} {w : ItemWalk} {x : ℕ}
+module _ {g : Group} {group : Reads} {a : Written} {w : ItemWalk} {x : ℕ}
     {rest items : List ℕ} {pairs : List (ℕ × ℕ)} (new : elem x items ≡ false) {count : ℕ}
     (f : Found g group a w (item_state (x ∷ rest) items pairs) x count) where
   abbrev visited : ItemState
@@ -155,7 +155,7 @@ module _ {WORDS NEEDS ENTRIES : ℕ} {g : Group} {group : GroupArrays WORDS NEED
       go : (l : List ℕ) → take count a.«open» ≡ l → after_open g x rest items open_of ≡ item_state (take count a.«open» ++ (x ∷ rest)) items f.after
       go [] e =
           absurd
-          (omega (arith, ap length e, length-take count a.«open», f.within, f.walking.shows.most, a.open_size))
+          (omega (arith, ap length e, length-take count a.«open», f.within, f.walking.room))
       go (d ∷ l) e = rw e (after-some g x rest items open_of (stay ∙ ap (λ (k : List ℕ). opened k f.after) e))
 
   module _ (nothing : count ≡ 0) where
@@ -169,7 +169,7 @@ module _ {WORDS NEEDS ENTRIES : ℕ} {g : Group} {group : GroupArrays WORDS NEED
     visit-uninjected i = visit-open ∙ after-uninjected g x rest items open_of none-stay i
 
 -- An uninjected item is in a range.
-pub ranged : {WORDS NEEDS ENTRIES : ℕ} {g : Group} {group : GroupArrays WORDS NEEDS} {a : Arrays WORDS ENTRIES} {w : ItemWalk} {s : ItemState} {x : Item}
+pub ranged : {g : Group} {group : Reads} {a : Written} {w : ItemWalk} {s : ItemState} {x : Item}
     → Walking g group a w s → ItemIs g x → is_injected (kind_of g x.id.0) ≡ false → Ranged g x
 ranged {g = g} {x = x} h i other = record { item = i; inside = inside (range_of-found g.ranges x.id.0) }
   where

@@ -1,2 +1,4 @@
 pub mod Walks
 pub mod WalkLaws
+pub mod Alongs
+pub mod Slices

@@ -3,7 +3,7 @@ use Rattle.std.specs.Prelude.{ℕ, ◌+◌, ◌*◌, ◌≤◌, ◌<◌, ◌≡�
 use Rattle.rules.specs.Lists.{elem, keep}
 use Rattle.rules.specs.Project.{item_limit}
 use Rattle.rules.specs.Paths.{dependencies_of}
-use Rattle.rules.specs.Items.{in_range, range_of, Group, first_list, ItemState, item_state, has_moved, Opened, opened, with_open, find_open, is_dropped, kind_of, visit_item, item_list, placed_of}
+use Rattle.rules.specs.Items.{in_range, range_of, Group, first_list, ItemState, item_state, has_moved, Opened, opened, with_open, find_open, is_dropped, kind_of, visit_item, item_list, placed_of, item_start}
 use Rattle.rules.specs.Calls.{item_list_limit}
 use Rattle.laws.specs.Splits.{size, WellFormed}
 use Rattle.laws.specs.ItemWalk.{Walked}
@@ -79,6 +79,21 @@ pub record Walking {WORDS NEEDS ENTRIES : ℕ} (g : Group) (group : GroupArrays 
   pub laid : Laid g group
   pub shows : Shows (size g) (width group) a w s
   pub walked : Walked g s
+
+-- What the rows of bits of the first state ask for: a row of `words` words has a bit for each of so many items; there is one, and one for each item.
+pub record Clearable (g : Group) (count words : ℕ) (placed moved : List ℕ) : Type 0 where
+  pub count-is : count ≡ size g
+  pub within : size g ≤ 64 * words
+  pub most : 64 * words ≤ item_limit
+  pub placed-size : words ≤ length placed
+  pub moved-size : size g * words ≤ length moved
+
+-- The first state: slices and numbers show it, whatever the order's array holds.
+pub record Started (g : Group) (width : ℕ) (placed moved list : List ℕ) (w : ItemWalk) : Type 0 where
+  pub entries : Listed list w.end (item_list (item_start g))
+  pub row-size : size g ≤ length placed * 64
+  pub items : (order : List ℕ) → Ordered (size g) placed order w.placed (placed_of (item_start g))
+  pub pairs : Table (size g) width moved (has_moved (moved_of (item_start g)))
 
 -- What making the first state asks for: the group's first list and room for it, and rows of bits for its items.
 pub record Startable {WORDS NEEDS : ℕ} (g : Group) (group : GroupArrays WORDS NEEDS) (entries : ℕ) : Type 0 where

@@ -2,5 +2,6 @@
 #![tactic(auto)]
 
 pub mod arrays;
+pub mod slices;
 mod steps;
 pub mod walk;

@@ -1,15 +1,18 @@
 // The item walk (iter): its state, one visit, and a run of visits.
-ghost use Rattle.std.specs.Prelude.{ℕ, ◌-◌, ◌≤◌, ◌<◌, ◌≡◌, false, drop};
-ghost use Rattle.rules.specs.Items.{Group, ItemState, item_walk, item_start, placed_of};
+ghost use Rattle.std.specs.Prelude.{ℕ, ◌*◌, ◌-◌, ◌≤◌, ◌<◌, ◌≡◌, false, List, length, drop, replicate, MatchResult};
+ghost use Rattle.rules.specs.Project.{item_limit};
+ghost use Rattle.rules.specs.Items.{Group, first_list, ItemState, item_walk, item_start, placed_of};
 ghost use Rattle.rules.specs.Walk.{run as runs};
 ghost use Rattle.rules.specs.Calls.{item_list_limit};
 ghost use Rattle.laws.specs.Splits.{size};
 ghost use Rattle.lists.specs.Stacks.{stack};
 ghost use Rattle.walks.specs.Runs.{Ran, CrowdedAt};
-ghost use Rattle.stmt.specs.Walks.{width, pair_words, Shows, Walking, Startable, SameVisits, Room, Short, IsAt};
+ghost use Rattle.stmt.specs.Walks.{Listed, width, pair_words, Shows, Walking, Clearable, Started, Startable, SameVisits, Room, Short, IsAt};
 ghost use Rattle.stmt.specs.WalkLaws.{list-within};
 
 use crate::arrays::Arrays;
+use crate::slices;
+use crate::slices::Reads;
 use walks::{Allowance, Outcome, Stop, Visits};
 
 // The numbers of the walk's state: the end of the list and how many items are placed.
@@ -22,6 +25,17 @@ pub struct ItemWalk {
 // The next visit may need a longer list.
 #[derive(Clone, Copy)]
 pub struct Crowded;
+
+// Whether a list of `end` entries has room for whatever one more visit of n items may leave, up to the limit, on an array of `room` entries.
+pub(crate) fn has_room(room: usize, end: usize, n: usize) -> Result<(), Crowded>
+    requires { (end ≤ item_list_limit) × (n ≤ item_limit) }
+    ensures { MatchResult result (λ _. Room n room end) (λ _. Short n room end) }
+{
+    if room < ItemWalk::LIST && room < end + n + 1 {
+        return Err(Crowded);
+    }
+    Ok(())
+}
 
 impl ItemWalk {
     // The most entries that a visit may leave.
@@ -38,9 +52,35 @@ impl ItemWalk {
         ensures moved_beyond { drop (pair_words group.now) arrays.new.moved ≡ drop (pair_words group.now) arrays.old.moved }
         ensures list_beyond { drop result.end arrays.new.list ≡ drop result.end arrays.old.list }
     {
-        arrays.placed.fill(0);
-        arrays.moved[..group.split.count * group.graph.weak.words].fill(0);
         let end = group.split.first_list(&mut arrays.list);
+        Self::start(
+            end,
+            group.split.count,
+            group.graph.weak.words,
+            &mut arrays.placed,
+            &mut arrays.moved,
+        )
+    }
+
+    // The state before the first visit of `count` items whose first list stands on a slice, with this end: nothing is placed and no pair has moved. A row
+    // of bits has `words` words. Clears `placed`, which holds a row or more, and `count` rows of `moved`; what `moved` holds beyond stays.
+    // `split::first_list` writes the list, with any number of starts.
+    pub fn start(
+        end: usize,
+        count: usize,
+        words: usize,
+        placed: &mut [u64],
+        moved: &mut [u64],
+    ) -> Self
+        requires { (g : Group) × Clearable g count words placed.old moved.old }
+        ensures started { (g : Group) (list : List ℕ) → Clearable g count words placed.old moved.old → Listed list end (first_list g)
+            → Started g (64 * words) placed.new moved.new list result }
+        ensures numbers { result ≡ record { end = end; placed = 0 } }
+        ensures placed { placed.new ≡ replicate (length placed.old) 0 }
+        ensures moved_beyond { drop (count * words) moved.new ≡ drop (count * words) moved.old }
+    {
+        placed.fill(0);
+        moved[..count * words].fill(0);
         Self { end, placed: 0 }
     }
 
@@ -87,10 +127,7 @@ impl<const WORDS: usize, const NEEDS: usize, const ENTRIES: usize> Visits<Arrays
 
     // Whether the list has room for whatever one more visit may leave, up to the limit.
     fn has_room(&self, _arrays: &Arrays<WORDS, ENTRIES>, w: ItemWalk) -> Result<(), Crowded> {
-        if ENTRIES < ItemWalk::LIST && ENTRIES < w.end + self.split.count + 1 {
-            return Err(Crowded);
-        }
-        Ok(())
+        has_room(ENTRIES, w.end, self.split.count)
     }
 
     // There is an entry on the list: an item that is not placed stands there.
@@ -115,5 +152,15 @@ pub fn run<const WORDS: usize, const NEEDS: usize, const ENTRIES: usize>(
         (CrowdedAt (λ w t. IsAt walked group.now arrays.new w t × ((item_walk walked).ended t ≡ false))
         (λ w c. Short group.now.split.count ENTRIES w.end)) result }
 {
-    walks::run(group, arrays, start, allowance)
+    slices::run(
+        &Reads::of(group),
+        &mut arrays.placed,
+        &mut arrays.moved,
+        &mut arrays.open,
+        &mut arrays.order,
+        &mut arrays.list,
+        group.split.count,
+        start,
+        allowance,
+    )
 }

@@ -1,8 +1,8 @@
 -- `Group::lay_needs` meets its contract. Assumes nothing.
-use Rattle.std.proofs.Common.{rules, sym, ◌∙◌, eqb-true}
+use Rattle.std.proofs.Common.{rules, arith, sym, ◌∙◌, eqb-true, take}
 use Rattle.rules.specs.Lists.{keep}
 use Rattle.graph.specs.NeighbourLaws.{shown-room, shown-laid}
-use Rattle.layout.specs.NeedLaws.{none-along, shows_none}
+use Rattle.layout.specs.NeedLaws.{none-along, shows_none, among-few}
 use Rattle.layout.proofs.Group.lay_needs.Goals as goal
 
 pub returns-then-is_empty-clause-laid : goal.returns-then-is_empty-clause-laid
@@ -21,7 +21,8 @@ link-requires g c =
     let known = c.requires.along in
     let new = c.clear.ensures in
     let shows = c.add_needs.ensures.added known.0 known.1 (shows_none new.nodes new.words new.none (new.cleared.shows _ _)) known.2.places in
-    (search rules, shown-room c.add_needs.new.self.graph shows.shown)
+    let rows = take c.args.self.now.split.count c.args.self.now.split.rows in
+    (search rules, shown-room c.add_needs.new.self.graph shows.shown (omega (arith, among-few rows known.0, known.2.few)))
 
 pub returns-clause-laid : goal.returns-clause-laid
 returns-clause-laid g c =

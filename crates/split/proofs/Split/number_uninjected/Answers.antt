@@ -3,6 +3,8 @@ use Rattle.laws.specs.Orders.{get_or-∈}
 use Rattle.split.specs.SplitLaws.{numbered-parts, modules-left, modules-room, modules-step, modules-same, modules-end, ranges-room, ranges-step, low_stored, high-stored, starts-stored}
 use Rattle.split.proofs.Split.number_uninjected.Goals as goal
 
+-- The numbers of a module begin where those before it end,
+-- and its range begins there.
 pub number_rows-requires : goal.number_rows-requires
 number_rows-requires c =
     let modules = c.args.modules.now in

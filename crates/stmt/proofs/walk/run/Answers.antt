@@ -1,14 +1,14 @@
--- `stmt::walk::run` meets its contract. Assumes nothing.
-use Rattle.walks.specs.RunLaws.{ran-as}
-use Rattle.stmt.proofs.RunLaws.{same_self, order-shown}
+-- `stmt::walk::run` meets its contract, by that of a run over slices. Assumes nothing.
+use Rattle.stmt.proofs.LendLaws.{lent-walks, arrays-ran}
 use Rattle.stmt.proofs.walk.run.Goals as goal
 
 pub run-requires : goal.run-requires
 run-requires g c =
     let r = c.requires in
-    (r.0, r.1, (r.0, same_self r.0, r.2))
+    (r.0, r.1, r.2.laid.count-is, lent-walks r.2 c.of.result c.of.ensures.width (c.of.ensures.laid r.0 r.2.laid))
 
 pub returns : goal.returns
 returns g c i walked s same h =
-    let ran = c.run.ensures walked s (i, same, h) in
-    ran-as (λ w t k. order-shown k.0 k.1) (λ x k. k) ran
+    let r = c.of.result in
+    arrays-ran h r c.of.ensures.width c.args.group.now.split.count same
+    (c.run.ensures i walked s h.laid.count-is same (lent-walks h r c.of.ensures.width (c.of.ensures.laid i h.laid)))

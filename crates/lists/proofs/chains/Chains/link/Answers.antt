@@ -1,60 +1,10 @@
-use Rattle.std.proofs.Common.{arith, rules, sym, ◌∙◌, ap, ◌≡◌, ◌+◌, ◌-◌, length, take_all, length-take, get_or, ◌<◌}
-use Rattle.lists.specs.ChainLaws.{link-none, link-turn, first-but-last}
+-- `Chains::link` meets its contract. Assumes nothing.
+use Rattle.std.proofs.Common.{arith, length}
+use Rattle.lists.specs.ChainedLaws.{ascends-linked}
 use Rattle.lists.proofs.chains.Chains.link.Goals as goal
-use Rattle.lists.proofs.chains.Chains.link.Goals.{After-from}
 
-pub loop-place-init : goal.loop-place-init
-loop-place-init g c =
-    let keys = c.args.keys.now in
-    let all : c.into_iter-place-iterator.result.iter.iter.rest.now ≡ keys = (cc) in
-    ((cc), rw all (sym (take_all (length keys) keys (omega arith))), rw all (link-none keys (length keys) c.args.self.now.heads c.args.self.now.next))
-
--- the place and its key
-taken : {g : _} (c : After-from g)
-    → (length c.loop-place.place-iterator.iter.iter.rest.now ≡ c.in-Some.place + 1) × (c.in-Some.place ≡ length c.next.new.self.iter.iter.rest.now)
-    × (c.in-Some.place < length c.args.keys.now) × (get_or c.args.keys.now c.in-Some.place 0 ≡ c.from.result)
-taken c =
-    let keys = c.args.keys.now in
-    let left = c.loop-place.place-iterator.iter.iter.rest.now in
-    let i = c.loop-place.invariant in
-    let s = c.in-Some.ensures.steps in
-    let known = first-but-last keys _ _ _ s.1.0 i.1 in
-    let is : c.in-Some.place ≡ length c.next.new.self.iter.iter.rest.now = omega (arith, s.1.1, i.0) in
-    let count : length left ≡ c.in-Some.place + 1 = omega (arith, is, known.0) in
-    (count, is, omega (arith, count, ap length i.1, length-take (length left) keys), rw is (known.2 ∙ sym c.from.ensures))
-
-pub put_first-requires : goal.put_first-requires
-put_first-requires g c =
-    let chains = c.loop-place.self in
-    let t = taken c in
-    let onward = c.loop-place.invariant.2.heads-onward c.from.result (rw t.3 at (c.requires.empty c.in-Some.place t.2)) in
-    let below = rw t.3 at (c.requires.below c.in-Some.place t.2) in (
-      search rules,
-      (
-        omega (arith, below, chains.sizes, c.args.self.now.sizes),
-        (
-          (omega (arith, t.2, c.requires.next-size, chains.sizes, c.args.self.now.sizes), omega (arith, t.2, c.requires.most)),
-          λ h. omega (arith, onward.0 h, t.0),
-        ),
-      ),
-    )
-
-pub loop-place-preserved : goal.loop-place-preserved
-loop-place-preserved g c =
-    let chains = c.loop-place.self in
+pub invariant_of-self-clause-ascends : goal.invariant_of-self-clause-ascends
+invariant_of-self-clause-ascends g c =
     let old = c.args.self.now in
-    let keys = c.args.keys.now in
-    let i = c.loop-place.invariant in
-    let s = c.in-Some.ensures.steps in
-    let t = taken (goal.at.loop-place-preserved g c).After-from in
-    let n = length c.loop-place.place-iterator.iter.iter.rest.now in
-    let place : n - 1 ≡ c.in-Some.place = omega (arith, t.0) in
-    let below = rw t.3 at (c.requires.below c.in-Some.place t.2) in (
-      s.0 ∙ i.0,
-      (first-but-last keys _ _ _ s.1.0 i.1).1,
-      rw (c.put_first.ensures.heads, c.put_first.ensures.next, ← t.1)
-          (rw (place, t.3) at (link-turn keys old.heads old.next chains.heads chains.next (length keys) n (omega (arith, t.0)) (omega (arith, t.0, t.2)) (omega arith)
-          (omega (arith, c.requires.next-size, chains.sizes, old.sizes))
-          (rw (place, t.3) (omega (arith, below, chains.sizes, old.sizes)))
-          (rw place (c.requires.empty c.in-Some.place t.2)) i.2)),
-    )
+    ascends-linked c.args.keys.now old.heads old.next c.link.new.heads c.link.new.next (length c.args.keys.now) c.link.ensures
+    (omega (arith, c.requires.next-size, c.link.auto.next)) c.link.auto.next old.ascends

@@ -4,7 +4,7 @@ use Rattle.order.specs.ReadyLaws.{sorting}
 use Rattle.order.proofs.tables.SortTurns.take.Goals as goal
 
 pub new-sort-requires : goal.new-sort-requires
-new-sort-requires g c = let known = c.requires.bounds in (search rules, (known.0, known.1))
+new-sort-requires g c = (search rules, c.requires.bounds.0)
 
 pub sort_turns-requires : goal.sort_turns-requires
 sort_turns-requires g c =
