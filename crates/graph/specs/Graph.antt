@@ -1,12 +1,13 @@
 -- The graph of one group's needs on arrays. A graph is a list of needs, the one added last in front, as in rules' Paths. Assumes nothing.
-use Rattle.std.specs.Prelude.{ℕ, ◌*◌, ◌≤◌, ◌<◌, ◌≡◌, Bool, List, [], ◌∷◌, map, reverse, eqb, length, get_or, replicate}
+use Rattle.std.specs.Prelude.{ℕ, ◌*◌, ◌≤◌, ◌<◌, ◌≡◌, Bool, List, [], ◌∷◌, map, reverse, eqb, length, get_or, drop, replicate}
 use Rattle.rules.specs.Project.{Need, item_limit, need_row}
 use Rattle.rules.specs.Paths.{dependencies_of, dependants_of, weight_in, can_reach, in_paths}
 use Rattle.lists.specs.declared.chains.Chains.{Chains}
 use Rattle.lists.specs.Pairs.{different_pairs, pairs_of, Seen, Room, Added}
 use Rattle.graph.specs.Rows.{Rows, cleared, Holds, Rest}
 use Rattle.graph.specs.Reach.{Transposed}
-use Rattle.graph.specs.Links.{ends, Relinked, Chained}
+pub use Rattle.graph.specs.Links.{ends}
+use Rattle.graph.specs.Links.{Relinked, Chained}
 use Rattle.graph.specs.Neighbours.{nodes_along}
 use Rattle.graph.specs.declared.Graph.{Graph}
 use Rattle.graph.specs.declared.neighbours.Neighbours.{Neighbours}
@@ -92,11 +93,13 @@ neighbours_at ends chains x = nodes_along ends chains.next (get_or chains.heads 
 abbrev pub nodes_left : Neighbours → List ℕ
 nodes_left n = nodes_along n.ends.now n.chain.next.now n.chain.entry
 
--- The neighbours of items as needs have them: "`Dependencies` are outgoing, `Dependants` incoming", of needs in row order. The chains use at most as many
--- places as there are needs.
+-- The neighbours of items as needs have them: "`Dependencies` are outgoing, `Dependants` incoming", of needs in row order.
 pub record NeighboursLaid {WORDS NEEDS : ℕ} (needs : List Need) (g : Graph WORDS NEEDS) : Type 0 where
   pub dependencies : (x : ℕ) → x < g.nodes → neighbours_at g.pairs.to g.outgoing x ≡ dependencies_of needs x
   pub dependants : (x : ℕ) → x < g.nodes → neighbours_at g.pairs.from g.incoming x ≡ dependants_of needs x
+
+-- And on chains that use at most as many places as there are needs.
+pub record NeighboursChained {WORDS NEEDS : ℕ} (needs : List Need) (g : Graph WORDS NEEDS) : Type 0 where
   pub out-chained : Chained (length needs) (dependencies_of needs) g.nodes g.pairs.to g.outgoing.heads g.outgoing.next
   pub in-chained : Chained (length needs) (dependants_of needs) g.nodes g.pairs.from g.incoming.heads g.incoming.next
 
@@ -106,22 +109,31 @@ pub record Laid {WORDS NEEDS : ℕ} (needs : List Need) (g : Graph WORDS NEEDS) 
   pub paths-shown : Holds g.weak.words g.nodes (in_paths (reverse needs)) g.paths.cells
   pub weak-shown : Holds g.weak.words g.nodes (is_maybe (reverse needs)) g.weak.cells
 
--- What chaining the neighbours asks for: pairs of items, so few that entries fit 16 bits.
+-- What chaining the neighbours asks for: pairs of items.
 pub record LinkRoom {WORDS NEEDS : ℕ} (g : Graph WORDS NEEDS) : Type 0 where
-  pub most : g.pairs.count < 65536
   pub from-below : (i : ℕ) → i < g.pairs.count → get_or g.pairs.from i 0 < g.nodes
   pub to_below : (i : ℕ) → i < g.pairs.count → get_or g.pairs.to i 0 < g.nodes
+
+-- And so few that entries fit 16 bits.
+pub record LinkRoom16 {WORDS NEEDS : ℕ} (g : Graph WORDS NEEDS) : Type 0 where
+  pub most : g.pairs.count < 65536
+  pub room : LinkRoom g
 
 -- The pairs are the different ones of needs, in the order of their first rows.
 abbrev pub PairsOf : {WORDS NEEDS : ℕ} → List Need → Graph WORDS NEEDS → Type 0
 PairsOf needs g = pairs_of g.pairs.from g.pairs.to g.pairs.count ≡ different_pairs (map ends needs)
 
--- After the neighbours were chained the chains lead along the pairs. All else is as it was, also the heads of numbers that are no items.
+-- After the neighbours were chained all else is as it was. Of the heads of numbers that are no items this says nothing.
 pub record Linked {WORDS NEEDS : ℕ} (old new : Graph WORDS NEEDS) : Type 0 where
   pub matrices-kept : matrices_of new ≡ matrices_of old
   pub words-kept : new.weak.words ≡ old.weak.words
   pub from-kept : new.pairs.from ≡ old.pairs.from
   pub to_kept : new.pairs.to ≡ old.pairs.to
   pub count-kept : new.pairs.count ≡ old.pairs.count
+  pub out-rest : drop old.pairs.count new.outgoing.next ≡ drop old.pairs.count old.outgoing.next
+  pub in_rest : drop old.pairs.count new.incoming.next ≡ drop old.pairs.count old.incoming.next
+
+-- The chains lead along the pairs, and the heads of numbers that are no items are as they were.
+pub record Rechained {WORDS NEEDS : ℕ} (old new : Graph WORDS NEEDS) : Type 0 where
   pub outgoing-made : Relinked old.nodes old.pairs.count old.outgoing.heads old.outgoing.next new.outgoing.heads new.outgoing.next
   pub incoming-made : Relinked old.nodes old.pairs.count old.incoming.heads old.incoming.next new.incoming.heads new.incoming.next

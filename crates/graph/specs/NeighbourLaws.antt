@@ -14,14 +14,14 @@ use Rattle.laws.specs.Lists.{Tested, holds, fails, tested}
 use Rattle.lists.specs.declared.chains.Chains.{Chains}
 use Rattle.lists.specs.Chained.{Ascends}
 use Rattle.lists.specs.ArrayLaws.{zeros-replicate}
-use Rattle.lists.specs.ChainedLaws.{places-none, head-cleared, heads-past, ascends-again}
+use Rattle.lists.specs.ChainedLaws.{places-none, head-cleared, places-linked, heads-past, ascends-again}
 use Rattle.lists.specs.ChainLaws.{targets-more}
 use Rattle.lists.specs.Pairs.{Pair, pair, same_pair, holds_pair, seconds_of, add_pair, add_pairs, different_pairs, pairs_of, chain, targets, Linkable, Linked}
 use Rattle.lists.specs.PairLaws.{add_pair-old, add_pair-new, different-seconds, different-most, length_pairs, targets-seconds}
 use Rattle.graph.specs.Neighbours.{nodes_along}
 use Rattle.graph.specs.declared.Graph.{Graph}
 use Rattle.graph.specs.Links.{ends, Leading, Chained, Relinked, LinksRoom, Neighbours, LinksMade}
-use Rattle.graph.specs.Graph.{Matrices, Shown, neighbours_at, NeighboursLaid, Laid, LinkRoom, PairsOf, Linked as AllLinked}
+use Rattle.graph.specs.Graph.{Matrices, Shown, neighbours_at, NeighboursLaid, NeighboursChained, Laid, LinkRoom, LinkRoom16, PairsOf, Linked as AllLinked}
 
 -- Pairs with their numbers exchanged: the different ones are the exchanged different ones.
 swap : Pair → Pair
@@ -191,34 +191,65 @@ more-most h c =
     }
 
 -- Once the neighbours are chained, the graph has those of the needs.
-pub neighbours-laid : {WORDS NEEDS : ℕ} (needs : List Need) (old new : Graph WORDS NEEDS) → PairsOf needs old
-    → Neighbours old.pairs.count new.nodes needs new.pairs.from new.pairs.to new.outgoing.heads new.outgoing.next new.incoming.heads new.incoming.next
-    → NeighboursLaid needs new
-neighbours-laid needs old new same n =
-    record {
-      dependencies = nodes-chained n.dependencies;
-      dependants = nodes-chained n.dependants;
-      out-chained = more-most (pairs-few needs old same) n.dependencies;
-      in-chained = more-most (pairs-few needs old same) n.dependants;
-    }
+module _ {WORDS NEEDS : ℕ} (needs : List Need) (old new : Graph WORDS NEEDS) (same : PairsOf needs old)
+    (n : Neighbours old.pairs.count new.nodes needs new.pairs.from new.pairs.to new.outgoing.heads new.outgoing.next new.incoming.heads new.incoming.next) where
+  pub neighbours-laid : NeighboursLaid needs new
+  neighbours-laid = record { dependencies = nodes-chained n.dependencies; dependants = nodes-chained n.dependants }
 
--- A graph that shows needs has at most as many pairs.
-shown-few : {WORDS NEEDS : ℕ} {graph : List Need} (g : Graph WORDS NEEDS) → Shown graph g → g.pairs.count ≤ length graph
+  pub neighbours-chained : NeighboursChained needs new
+  neighbours-chained =
+      record { out-chained = more-most (pairs-few needs old same) n.dependencies; in-chained = more-most (pairs-few needs old same) n.dependants }
+
+-- The pairs of a graph that shows needs are those of the needs, and at most as many.
+pub shown-pairs : {WORDS NEEDS : ℕ} (needs : List Need) (g : Graph WORDS NEEDS) → Shown (reverse needs) g → PairsOf needs g
+shown-pairs needs g s = s.pairs ∙ ap (λ (l : List Need). different_pairs (map ends l)) (reverse-reverse needs)
+
+pub shown-few : {WORDS NEEDS : ℕ} {graph : List Need} (g : Graph WORDS NEEDS) → Shown graph g → g.pairs.count ≤ length graph
 shown-few {graph = graph} g s = omega (arith, pairs-few (reverse graph) g s.pairs, length-reverse graph)
 
 -- The pairs of a graph that shows needs are of its items.
-pub shown-room : {WORDS NEEDS : ℕ} {graph : List Need} (g : Graph WORDS NEEDS) → Shown graph g → length graph < 65536 → LinkRoom g
-shown-room {graph = graph} g s h = record { most = omega (arith, h, shown-few g s); from-below = s.from-below; to_below = s.to_below }
+pub shown-room : {WORDS NEEDS : ℕ} {graph : List Need} (g : Graph WORDS NEEDS) → Shown graph g → LinkRoom g
+shown-room g s = record { from-below = s.from-below; to_below = s.to_below }
+
+-- Fewer than 65,536 places hold so few pairs that entries fit 16 bits.
+pub few-room : {WORDS NEEDS : ℕ} (g : Graph WORDS NEEDS) → NEEDS < 65536 → LinkRoom g → LinkRoom16 g
+few-room g h r = record { most = omega (arith, h, g.pairs.within); room = r }
+
+pub shown-room16 : {WORDS NEEDS : ℕ} {graph : List Need} (g : Graph WORDS NEEDS) → Shown graph g → length graph < 65536 → LinkRoom16 g
+shown-room16 {graph = graph} g s h = record { most = omega (arith, h, shown-few g s); room = shown-room g s }
 
 -- They are those of the needs, so that once the neighbours are chained, the needs are laid out.
 pub shown-laid : {WORDS NEEDS : ℕ} (needs : List Need) (old : Graph WORDS NEEDS) {new : Graph WORDS NEEDS} → Shown (reverse needs) old
     → (PairsOf needs old → NeighboursLaid needs new) → new.nodes ≡ old.nodes → AllLinked old new → Laid needs new
 shown-laid needs old s n nodes l =
     record {
-      neighbours = n (s.pairs ∙ ap (λ (l : List Need). different_pairs (map ends l)) (reverse-reverse needs));
+      neighbours = n (shown-pairs needs old s);
       paths-shown = rw (l.words-kept, nodes, ap (λ (m : Matrices). m.paths) l.matrices-kept) s.in-paths;
       weak-shown = rw (l.words-kept, nodes, ap (λ (m : Matrices). m.weak) l.matrices-kept) s.weights;
     }
+
+-- The neighbours of an item on its chain, once the pairs are chained from cleared heads on.
+module _ {WORDS NEEDS : ℕ} (needs : List Need) (g : Graph WORDS NEEDS) (same : PairsOf needs g) where
+  most : g.pairs.count ≤ NEEDS
+  most = g.pairs.within
+
+  pub dependencies-linked : {next₀ : List ℕ} (old new : Chains item_limit NEEDS)
+      → Linked 0 (take g.pairs.count g.pairs.from) (length (take g.pairs.count g.pairs.from)) (replicate g.nodes 0 ++ drop g.nodes old.heads) next₀ new.heads new.next
+      → (x : ℕ) → x < g.nodes → neighbours_at g.pairs.to new x ≡ dependencies_of needs x
+  unfolding nodes_along
+  dependencies-linked old new l x below =
+      places-linked _ _ _ _ _ _ _ (omega (arith, g.pairs.sizes, most)) (omega (arith, g.pairs.sizes, most)) (omega (arith, new.sizes, most)) l x
+      (omega (arith, new.sizes, g.fits.numbers, g.fits.most)) (head-cleared g.nodes old.heads x below)
+      ∙ seconds-out g.pairs.from g.pairs.to g.pairs.count needs same x
+
+  pub dependants-linked : {next₀ : List ℕ} (old new : Chains item_limit NEEDS)
+      → Linked 0 (take g.pairs.count g.pairs.to) (length (take g.pairs.count g.pairs.to)) (replicate g.nodes 0 ++ drop g.nodes old.heads) next₀ new.heads new.next
+      → (x : ℕ) → x < g.nodes → neighbours_at g.pairs.from new x ≡ dependants_of needs x
+  unfolding nodes_along
+  dependants-linked old new l x below =
+      places-linked _ _ _ _ _ _ _ (omega (arith, g.pairs.sizes, most)) (omega (arith, g.pairs.sizes, most)) (omega (arith, new.sizes, most)) l x
+      (omega (arith, new.sizes, g.fits.numbers, g.fits.most)) (head-cleared g.nodes old.heads x below)
+      ∙ seconds-in g.pairs.from g.pairs.to g.pairs.count needs same x
 
 -- Chains whose first heads were cleared have no places.
 pub none-linked : {NEEDS n : ℕ} (ends : List ℕ) (old new : Chains item_limit NEEDS) → new.heads ≡ replicate n 0 ++ drop n old.heads

@@ -53,7 +53,7 @@ impl<const WORDS: usize, const NEEDS: usize> Graph<WORDS, NEEDS> {
     ghost use Rattle.std.specs.Prelude.{List, [], reverse};
     ghost use Rattle.rules.specs.Project.{Need, item_limit};
     ghost use Rattle.rules.specs.Paths.{dependencies_of, dependants_of, in_paths};
-    ghost use Rattle.graph.specs.Graph.{nodes_left, is_maybe, matrices_of, Cleared, EdgeRoom, EdgeAdded, NeighboursLaid, Laid, LinkRoom, PairsOf, Linked};
+    ghost use Rattle.graph.specs.Graph.{nodes_left, is_maybe, matrices_of, Cleared, EdgeRoom, EdgeAdded, NeighboursLaid, NeighboursChained, Laid, LinkRoom16, PairsOf, Linked, Rechained};
 
     // No items.
     pub fn new() -> Self
@@ -122,10 +122,12 @@ impl<const WORDS: usize, const NEEDS: usize> Graph<WORDS, NEEDS> {
 
     // Chains each item's dependencies, outgoing, and its dependants, incoming.
     pub fn link(&mut self)
-        requires { LinkRoom self.old }
+        requires { LinkRoom16 self.old }
         ensures neighbours { (needs : List Need) → PairsOf needs self.old → NeighboursLaid needs self.new }
+        ensures chained { (needs : List Need) → PairsOf needs self.old → NeighboursChained needs self.new }
         ensures nodes { self.new.nodes ≡ self.old.nodes }
         ensures linked { Linked self.old self.new }
+        ensures rechained { Rechained self.old self.new }
     {
         let nodes = self.nodes;
         let outgoing = &mut self.outgoing;
@@ -146,6 +148,7 @@ impl<const WORDS: usize, const NEEDS: usize> Graph<WORDS, NEEDS> {
     pub fn lay_out_none(&mut self, nodes: usize)
         requires { Fits WORDS (words_for nodes) nodes }
         ensures laid { Laid [] self.new }
+        ensures chained { NeighboursChained [] self.new }
         ensures nodes { self.new.nodes ≡ nodes }
         ensures words { self.new.weak.words ≡ words_for nodes }
     {

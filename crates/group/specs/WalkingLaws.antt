@@ -1,5 +1,5 @@
 -- Laws of the walk of a group's items from its first list on. Assumes nothing.
-use Rattle.std.specs.Prelude.{ℕ, ◌*◌, ◌≤◌, ◌<◌, ◌≡◌, length, take}
+use Rattle.std.specs.Prelude.{ℕ, ◌*◌, ◌≤◌, ◌≡◌, length, take}
 use Rattle.std.proofs.Common.{arith, mul-le-mul, sym, ◌∙◌}
 use Rattle.std.proofs.Math.Path.{ap, subst}
 use mathlib.Core.List.{List}
@@ -72,11 +72,11 @@ module _ {p : Project} {modules : List ℕ} {s : Split} (d : Splits p modules s)
 
   -- room for the needs that the walk asks for
   pub lay-room : {WORDS NEEDS : ℕ} {section next : List ℕ} {entry : ℕ} → Giving p modules → length p.items * words_for (length p.items) ≤ WORDS
-      → length p.needs ≤ NEEDS → length p.needs < 65536 → (k : AskedNeeds p modules section next entry) → LayRoom WORDS NEEDS s.count k.own
-  lay-room gives rows places few k =
+      → length p.needs ≤ NEEDS → (k : AskedNeeds p modules section next entry) → LayRoom WORDS NEEDS s.count k.own
+  lay-room gives rows places k =
       let items-few : s.count ≤ length p.items = omega (arith, d.count-is, length-numbering p gives.once) in
       let fewer : words_for s.count ≤ words_for (length p.items) = omega (arith, items-few) in
-      record { rows = omega (arith, mul-le-mul items-few fewer); places = omega (arith, k.few); few = omega (arith, k.few) }
+      record { rows = omega (arith, mul-le-mul items-few fewer); places = omega (arith, k.few) }
 
 -- And laid out with the needs that the walk asks for.
 module _ {WORDS NEEDS : ℕ} {p : Project} {modules section next : List ℕ} {entry : ℕ} {group : GroupArrays WORDS NEEDS}
@@ -112,7 +112,7 @@ module _ {WORDS NEEDS : ℕ} {p : Project} {modules : List ℕ} {items : ItemRow
   along-own = subst (λ (l : List ℕ). NeedsAlong needs l asked asked-own.own) (sym same) asked-own.along
 
   pub room_own : LayRoom WORDS NEEDS before.split.count asked-own.own
-  room_own = lay-room numbered.splits h.numberable.giving h.rows-room h.needs-room (omega (arith, h.numberable.accepted.needs-most)) asked-own
+  room_own = lay-room numbered.splits h.numberable.giving h.rows-room h.needs-room asked-own
 
   pub walks-on : {after : GroupArrays WORDS NEEDS} → after.split ≡ before.split → after.graph.nodes ≡ before.split.count
       → ((all : List Need) → NeedsAlong needs asked-next asked all → LayRoom WORDS NEEDS before.split.count all

@@ -28,11 +28,10 @@ unfoldable pub add_needs : List ℕ → List Need → List Need → List Need
 add_needs rows graph [] = graph
 add_needs rows graph (n ∷ needs) = add_needs rows (add_need rows graph n) needs
 
--- What laying out the needs of n items asks for: room, and so few needs that entries fit 16 bits.
+-- What laying out the needs of n items asks for.
 pub record LayRoom (WORDS NEEDS n : ℕ) (needs : List Need) : Type 0 where
   pub rows : n * words_for n ≤ WORDS
   pub places : length needs ≤ NEEDS
-  pub few : length needs < 65536
 
 -- A graph shows needs of a split's items.
 pub record Shows {WORDS NEEDS : ℕ} (needs : List Need) (s : Split) (g : Graph WORDS NEEDS) : Type 0 where

@@ -26,7 +26,7 @@ impl<const WORDS: usize, const NEEDS: usize> Group<WORDS, NEEDS> {
     ghost use Rattle.project.specs.Decoded.{need_in};
     ghost use Rattle.owners.specs.Owners.{NeedsAlong};
     ghost use Rattle.graph.specs.Rows.{words_for};
-    ghost use Rattle.graph.specs.Graph.{Laid};
+    ghost use Rattle.graph.specs.Graph.{NeighboursChained, Laid};
     ghost use Rattle.layout.specs.Numbers.{note_from, NumberedAs, Noted, Numberable, ItemsNumbered};
     ghost use Rattle.layout.specs.Needs.{add_need, add_needs, needs_among, Shows, NeedRoom, LayRoom};
 
@@ -118,6 +118,8 @@ impl<const WORDS: usize, const NEEDS: usize> Group<WORDS, NEEDS> {
         requires along { (all : List Need) × NeedsAlong needs.now own.next.now own.entry all × LayRoom WORDS NEEDS self.old.split.count all }
         ensures laid { (all : List Need) → NeedsAlong needs.now own.entry.next.now own.entry.entry all → LayRoom WORDS NEEDS self.old.split.count all
             → Laid (needs_among (take self.old.split.count self.old.split.rows) all) self.new.graph }
+        ensures chained { (all : List Need) → NeedsAlong needs.now own.entry.next.now own.entry.entry all → LayRoom WORDS NEEDS self.old.split.count all
+            → NeighboursChained (needs_among (take self.old.split.count self.old.split.rows) all) self.new.graph }
         ensures nodes { self.new.graph.nodes ≡ self.old.split.count }
         ensures words { self.new.graph.weak.words ≡ words_for self.old.split.count }
         ensures split { self.new.split ≡ self.old.split }

@@ -17,13 +17,20 @@ returns-clause-laid g c =
           record {
             dependencies = none-linked old.pairs.to old.outgoing c.clear-3.new.self c.clear-3.ensures.heads;
             dependants = none-linked old.pairs.from old.incoming c.clear-4.new.self c.clear-4.ensures.heads;
-            out-chained =
-                none-chained (dependencies_of []) old.pairs.to old.outgoing c.clear-3.new.self (omega (arith, c.requires.numbers, c.requires.most))
-                c.clear-3.ensures.heads (λ x. refl);
-            in-chained =
-                none-chained (dependants_of []) old.pairs.from old.incoming c.clear-4.new.self (omega (arith, c.requires.numbers, c.requires.most))
-                c.clear-4.ensures.heads (λ x. refl);
           };
       paths-shown = rw (c.clear.ensures.words, c.clear-2.ensures.cells) (rows-cleared _ c.args.nodes old.paths.cells);
       weak-shown = rw (c.clear.ensures.words, c.clear.ensures.cells) (rows-cleared _ c.args.nodes old.weak.cells);
+    }
+
+pub returns-clause-chained : goal.returns-clause-chained
+unfolding dependencies_of dependants_of different append_new keep
+returns-clause-chained g c =
+    let old = c.args.self.now in
+    record {
+      out-chained =
+          none-chained (dependencies_of []) old.pairs.to old.outgoing c.clear-3.new.self (omega (arith, c.requires.numbers, c.requires.most))
+          c.clear-3.ensures.heads (λ x. refl);
+      in-chained =
+          none-chained (dependants_of []) old.pairs.from old.incoming c.clear-4.new.self (omega (arith, c.requires.numbers, c.requires.most))
+          c.clear-4.ensures.heads (λ x. refl);
     }

@@ -50,6 +50,6 @@ returns g c =
     let laid = c.lay_needs.ensures in
     λ p h.
     let numbered = c.number_items.ensures.numbered p h.numberable in
-    let able = walks-on h numbered asked.next asked.entry laid.split laid.nodes laid.laid in
+    let walkable = walks-on h numbered asked.next asked.entry laid.split laid.nodes laid.laid in
     let splits : Splits p c.args.modules.now c.walk_items.new.self.group.split = rw (c.walk_items.ensures.group, laid.split) numbered.splits in
-    sorts c.walk_items.new.self h.numberable splits _ _ (rw (← c.walk_items.ensures.group) at (c.in_ok-made.ensures.ran _ _ able))
+    sorts c.walk_items.new.self h.numberable splits _ _ (rw (← c.walk_items.ensures.group) at (c.in_ok-made.ensures.ran _ _ walkable))
