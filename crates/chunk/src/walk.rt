@@ -253,7 +253,7 @@ impl<'a> Visits<Arrays> for Modules<'a> {
 
     ghost HasRoom = { λ _ _ _. ⊤ };
 
-    ghost Crowds = { λ _ _ _ _ _. ⊥ };
+    ghost Crowds = { λ _ _. ⊥ };
 
     // The list is empty.
     fn has_ended(&self, _arrays: &Arrays, w: ModuleWalk) -> bool {

@@ -199,3 +199,55 @@ impl<const WORDS: usize, const NEEDS: usize> Graph<WORDS, NEEDS> {
         self.weak.holds(usize::from(x), usize::from(y))
     }
 }
+
+#[cfg(test)]
+mod tests {
+    use super::*;
+    use std::test::Fail;
+
+    fn ask(holds: bool, what: &'static str) -> Result<(), &'static str> {
+        if holds { Ok(()) } else { Err(what) }
+    }
+
+    // Chaining where there are no pairs: no neighbours.
+    #[test]
+    fn no_needs() -> Result<(), Fail> {
+        let mut graph: Graph<4, 4> = Graph::new();
+        graph.clear(2);
+        graph.link();
+        let dependency = graph.dependencies(NodeId(0)).next();
+        ask(dependency.is_none(), "dependencies of 0")?;
+        let dependant = graph.dependants(NodeId(0)).next();
+        ask(dependant.is_none(), "dependants of 0")?;
+        Ok(())
+    }
+
+    // Item 0 needs item 1, which it may do without. Laid out anew without needs, they have no neighbours, path or weight.
+    #[test]
+    fn one_need() -> Result<(), Fail> {
+        let mut graph: Graph<4, 4> = Graph::new();
+        graph.clear(2);
+        graph.add_edge(NodeId(0), NodeId(1), WeightByte(1));
+        graph.link();
+        let dependency = graph.dependencies(NodeId(0)).next();
+        ask(dependency.is_some_and(|x| x.0 == 1), "dependency of 0")?;
+        let dependant = graph.dependants(NodeId(1)).next();
+        ask(dependant.is_some_and(|x| x.0 == 0), "dependant of 1")?;
+        let none = graph.dependencies(NodeId(1)).next();
+        ask(none.is_none(), "dependencies of 1")?;
+        ask(graph.has_path(NodeId(0), NodeId(1)), "path from 0 to 1")?;
+        ask(!graph.has_path(NodeId(1), NodeId(0)), "path from 1 to 0")?;
+        ask(graph.is_weak(NodeId(0), NodeId(1)), "weight of 0 and 1")?;
+        graph.lay_out_none(2);
+        let dependency = graph.dependencies(NodeId(0)).next();
+        ask(dependency.is_none(), "dependencies of 0, laid out anew")?;
+        let dependant = graph.dependants(NodeId(1)).next();
+        ask(dependant.is_none(), "dependants of 1, laid out anew")?;
+        ask(!graph.has_path(NodeId(0), NodeId(1)), "path, laid out anew")?;
+        ask(
+            !graph.is_weak(NodeId(0), NodeId(1)),
+            "weight, laid out anew",
+        )?;
+        Ok(())
+    }
+}

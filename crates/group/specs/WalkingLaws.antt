@@ -4,7 +4,7 @@ use Rattle.std.proofs.Common.{arith, mul-le-mul, sym, ◌∙◌}
 use Rattle.std.proofs.Math.Path.{ap, subst}
 use mathlib.Core.List.{List}
 use Rattle.rules.specs.Project.{Project, Need}
-use Rattle.rules.specs.Items.{starts as starts_of, numbers as numbers_in, first_list, group_of, kind_of, Group}
+use Rattle.rules.specs.Items.{starts as starts_of, numbers as numbers_in, numbering, first_list, group_of, kind_of, Group}
 use Rattle.laws.specs.Splits.{size, Giving}
 use Rattle.laws.proofs.Splits.{length-kinds, length-numbering}
 use Rattle.laws.proofs.FirstList.{first_list-limit}
@@ -14,7 +14,7 @@ use Rattle.split.specs.FirstLists.{Listable}
 use Rattle.split.specs.Splits.{Splits}
 use Rattle.split.specs.CallerLaws.{listable}
 use Rattle.graph.specs.Rows.{words_for}
-use Rattle.graph.specs.Graph.{Laid as NeedsLaid}
+use Rattle.graph.specs.Graph.{NeighboursChained, Laid as NeedsLaid}
 use Rattle.layout.specs.declared.Group.{Group as GroupArrays}
 use Rattle.layout.specs.Needs.{needs_among, LayRoom}
 use Rattle.stmt.specs.Walks.{Startable}
@@ -120,3 +120,11 @@ module _ {WORDS NEEDS : ℕ} {p : Project} {modules : List ℕ} {items : ItemRow
       → Walkable (asked_group p modules asked-own.own) (group_of p modules) after
   walks-on split nodes laid =
       walkable h.numberable (rw split numbered.splits) asked-own (rw split nodes) (rw split (laid asked-own.own along-own room_own))
+
+  -- The chains of what was laid out are those of the needs that the walk asks for.
+  pub chained_own : (after : GroupArrays WORDS NEEDS)
+      → ((own : List Need) → NeedsAlong needs asked-next asked own → LayRoom WORDS NEEDS before.split.count own
+      → NeighboursChained (needs_among (take before.split.count before.split.rows) own) after.graph)
+      → NeighboursChained (needs_among (numbering p modules) asked-own.own) after.graph
+  chained_own after chained =
+      subst (λ (r : List ℕ). NeighboursChained (needs_among r asked-own.own) after.graph) numbered.splits.numbered (chained asked-own.own along-own room_own)

@@ -13,7 +13,8 @@ use Rattle.lists.specs.Chained.{places}
 use Rattle.lists.specs.ChainLaws.{chain_same}
 use Rattle.lists.specs.Pairs.{Linked}
 use Rattle.project.specs.RowLaws.{pairs-length}
-use Rattle.split.specs.Rows.{module_rows, modules_in}
+pub use Rattle.split.specs.Rows.{modules_in}
+use Rattle.split.specs.Rows.{module_rows}
 use Rattle.split.specs.RowLaws.{pair-at}
 
 pub modules-length : (section : List ℕ) → length (modules_in section) ≡ length section / 2

@@ -77,36 +77,30 @@ module _ {WORDS ENTRIES : ℕ} where
     lent-walks laid =
         record { laid = laid; shows = rw wide (lent-shows h.shows); room = omega (arith, h.shows.most, a.open_size); walked = h.walked }
 
-    -- What comes of a visit of the group that is laid out comes of the same visit of the group that is walked.
+    -- What comes of a visit over slices comes of the visit of the group that is laid out, and of the same visit of the group that is walked.
+    pub arrays-shown : {a' : Arrays WORDS ENTRIES} {o : Outcome ItemWalk} → Comes (size g) r.width (lent a') (placed_of s) (visit_item g s) o
+        → Came item_list_limit item_list placed_of (ArraysWalk g group a') (placed_of s) (visit_item g s) o
+    arrays-shown = came-as (λ v q. record { laid = h.laid; shows = lent-back h.shows.most (rw wide at q); walked = walked-visit g h.laid.formed s h.walked })
+
     pub arrays-came : {walked : Group} {a' : Arrays WORDS ENTRIES} {o : Outcome ItemWalk} → SameVisits g walked
         → Comes (size g) r.width (lent a') (placed_of s) (visit_item g s) o
         → Came item_list_limit item_list placed_of (ArraysAt walked group a') (placed_of s) (visit_item walked s) o
     arrays-came {walked} {a'} {o} same c =
         subst (λ (t : ItemState). Came item_list_limit item_list placed_of (ArraysAt walked group a') (placed_of s) t o) (same.visits s)
-        (came-as
-        (λ v q. (
-          g,
-          same,
-          record { laid = h.laid; shows = lent-back h.shows.most (rw wide at q); walked = walked-visit g h.laid.formed s h.walked },
-        ))
-        c)
+        (came-as (λ v k. (g, same, k)) (arrays-shown c))
 
     -- What comes of a run over slices comes of the run on the arrays.
-    pub arrays-ran : {walked : Group} {a' : Arrays WORDS ENTRIES} (count : ℕ) {stop : Stopped ItemState} {o : Result (ItemWalk × ℕ) (Stop Crowded)}
-        → SameVisits g walked
+    pub arrays-ran : (walked : Group) {a' : Arrays WORDS ENTRIES} (count : ℕ) {stop : Stopped ItemState} {o : Result (ItemWalk × ℕ) (Stop Crowded)}
         → Ran stop (λ w t. Walking g r (lent a') w t × (stack a'.order count ≡ placed_of t))
         (CrowdedAt (λ w t. Walking g r (lent a') w t × ((item_walk walked).ended t ≡ false)) (λ w c. Short count (length a.list) w.end)) o
         → Ran stop (λ w t. stack a'.order count ≡ placed_of t)
-        (CrowdedAt (λ w t. ArraysAt walked group a' w t × ((item_walk walked).ended t ≡ false)) (λ w c. Short count ENTRIES w.end)) o
-    arrays-ran count same =
+        (CrowdedAt (λ w t. ArraysWalk g group a' w t × ((item_walk walked).ended t ≡ false)) (λ w c. Short count ENTRIES w.end)) o
+    arrays-ran walked count =
         ran-as (λ w t k. k.1)
         (λ c k.
         record {
           numbers = k.numbers;
           state = k.state;
-          shown = (
-            (g, same, record { laid = h.laid; shows = lent-back h.shows.most (rw wide at k.shown.0.shows); walked = k.shown.0.walked }),
-            k.shown.1,
-          );
+          shown = (record { laid = h.laid; shows = lent-back h.shows.most (rw wide at k.shown.0.shows); walked = k.shown.0.walked }, k.shown.1);
           crowded = rw a.list_size at k.crowded;
         })

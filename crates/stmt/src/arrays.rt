@@ -58,8 +58,10 @@ impl<const WORDS: usize, const ENTRIES: usize> Arrays<WORDS, ENTRIES> {
     ) -> Outcome<ItemWalk>
         requires some { 0 < w.end }
         requires walking { (g : Group) × (s : ItemState) × Walking g group.now self.old w s × Room (size g) ENTRIES w.end }
-        ensures { (g walked : Group) (s : ItemState) → SameVisits g walked → Walking g group.now self.old w s
+        ensures came { (g walked : Group) (s : ItemState) → SameVisits g walked → Walking g group.now self.old w s
             → Came item_list_limit item_list placed_of (IsAt walked group.now self.new) (placed_of s) (visit_item walked s) result }
+        ensures shown { (g : Group) (s : ItemState) → Walking g group.now self.old w s
+            → Came item_list_limit item_list placed_of (Walking g group.now self.new) (placed_of s) (visit_item g s) result }
     {
         visit(
             &Reads::of(group),

@@ -118,7 +118,9 @@ impl<const WORDS: usize, const NEEDS: usize, const ENTRIES: usize> Visits<Arrays
 
     ghost HasRoom = { λ group arrays w. Room group.split.count ENTRIES w.end };
 
-    ghost Crowds = { λ walked group arrays w c. Short group.split.count ENTRIES w.end };
+    ghost Crowds = { λ walked c. ENTRIES < item_list_limit };
+
+    ghost CrowdsAt = { λ group arrays w c. Short group.split.count ENTRIES w.end };
 
     // All are placed.
     fn has_ended(&self, _arrays: &Arrays<WORDS, ENTRIES>, w: ItemWalk) -> bool {
@@ -149,7 +151,7 @@ pub fn run<const WORDS: usize, const NEEDS: usize, const ENTRIES: usize>(
     ensures { (g walked : Group) (s : ItemState) → SameVisits g walked → Walking g group.now arrays.old start s
         → Ran (runs (item_walk walked) item_list_limit (allowance.visits - allowance.made) allowance.made s)
         (λ w t. stack arrays.new.order group.now.split.count ≡ placed_of t)
-        (CrowdedAt (λ w t. IsAt walked group.now arrays.new w t × ((item_walk walked).ended t ≡ false))
+        (CrowdedAt (λ w t. Walking g group.now arrays.new w t × ((item_walk walked).ended t ≡ false))
         (λ w c. Short group.now.split.count ENTRIES w.end)) result }
 {
     slices::run(

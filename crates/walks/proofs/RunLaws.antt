@@ -1,5 +1,5 @@
 -- Laws for the proof of `run`: one turn of its loop is one visit of the definition's run. Assumes nothing.
-use Rattle.std.specs.Prelude.{ℕ, suc, ◌-◌, ◌+◌, ◌≤◌, ◌<◌, ◌≡◌, refl, true, false, List, length, Result, Ok, Err, MatchResult, IsErrAnd}
+use Rattle.std.specs.Prelude.{ℕ, suc, ◌-◌, ◌+◌, ◌≤◌, ◌<◌, ◌≡◌, refl, true, false, List, length, Result, Ok, Err, MatchResult, IfErr, IsErrAnd}
 use Rattle.std.proofs.Common.{arith, add-one, sym, ap, ◌∙◌, ◌⊎◌, ⊎_elim, lt-ltb, le-ltb}
 use Rattle.rules.specs.Walk.{Walk, Stop, full, run}
 use Rattle.laws.specs.Runs.{run-ended, run-spent, run-full, run_on}
@@ -87,3 +87,12 @@ module _ {Spec State C : Type 0} {stop : Stop Spec} {ending shows : State → Sp
   crowds-on Room (Err c) mapped a b e =
       let f : d ≡ Crowded c = rw e at b in
       rw f (was_crowded (record { numbers = w; state = s; shown = h; crowded = a }))
+
+  -- So is what else is said where there is none.
+  pub crowded-on : {U : Type 0} (Room : U → Type 0) (said : C → Type 0) (room : Result U C) (mapped : Result U (Stopped C)) → MatchResult room Room said
+      → IfErr room (crowds w) → MatchResult room (λ x. mapped ≡ Ok x) (λ c. IsErrAnd mapped (λ d. d ≡ Crowded c)) → mapped ≡ Err d
+      → Ran stop ending (λ c. said c × CrowdedAt shows crowds c) (Err d)
+  crowded-on Room said (Ok x) mapped a k b e = absurd (let f : Ok x ≡ Err d = sym b ∙ e in cc)
+  crowded-on Room said (Err c) mapped a k b e =
+      let f : d ≡ Crowded c = rw e at b in
+      rw f (was_crowded (a, record { numbers = w; state = s; shown = h; crowded = k }))

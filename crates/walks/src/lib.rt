@@ -1,7 +1,7 @@
 // One run for both walks: visits against an allowance.
 #![tactic(auto)]
 
-ghost use Rattle.std.specs.Prelude.{ℕ, ◌-◌, ◌≤◌, ◌≡◌, true, false, List, length, MatchResult};
+ghost use Rattle.std.specs.Prelude.{ℕ, ◌-◌, ◌≤◌, ◌≡◌, true, false, List, length, MatchResult, IfErr, ⊤};
 ghost use Rattle.rules.specs.Walk.{Walk, run as runs};
 ghost use Rattle.walks.specs.Runs.{Came, Ran, CrowdedAt, crowded_of};
 
@@ -74,16 +74,20 @@ pub trait Visits<Arrays> {
     // The arrays have room for whatever one more visit may leave.
     ghost HasRoom: { Self → Arrays → Self.State → Type 0 };
 
-    // What holds where there may be too little room.
-    ghost Crowds: { Input → Self → Arrays → Self.State → Self.Crowded → Type 0 };
+    // What holds of the input where there may be too little room.
+    ghost Crowds: { Input → Self.Crowded → Type 0 };
+
+    // What holds of the very state there.
+    ghost CrowdsAt: { Self → Arrays → Self.State → Self.Crowded → Type 0 } = { λ _ _ _ _. ⊤ };
 
     fn has_ended(&self, arrays: &Arrays, w: Self::State) -> bool
         ensures { (x : Input) (s : SpecState) → IsAt x self.now arrays.now w s → (walk x).ended s ≡ result };
 
     fn has_room(&self, arrays: &Arrays, w: Self::State) -> Result<(), Self::Crowded>
         requires { (x : Input) × (s : SpecState) × IsAt x self.now arrays.now w s }
-        ensures { (x : Input) (s : SpecState) → IsAt x self.now arrays.now w s
-            → MatchResult result (λ _. HasRoom self.now arrays.now w) (Crowds x self.now arrays.now w) };
+        ensures room { (x : Input) (s : SpecState) → IsAt x self.now arrays.now w s
+            → MatchResult result (λ _. HasRoom self.now arrays.now w) (Crowds x) }
+        ensures state { (x : Input) (s : SpecState) → IsAt x self.now arrays.now w s → IfErr result (CrowdsAt self.now arrays.now w) };
 
     // One visit of a walk that has not ended.
     fn visit(&self, arrays: &mut Arrays, w: Self::State) -> Outcome<Self::State>
@@ -109,7 +113,8 @@ pub fn run<Arrays, V: Visits<Arrays>>(
     ensures { (x : V.Input) (s : V.SpecState) → V.IsAt x walk.now arrays.old start s
         → Ran (runs (V.walk x) V.limit (allowance.visits - allowance.made) allowance.made s)
         (λ w t. V.IsAt x walk.now arrays.new w t × ((V.walk x).ended t ≡ true))
-        (CrowdedAt (λ w t. V.IsAt x walk.now arrays.new w t × ((V.walk x).ended t ≡ false)) (V.Crowds x walk.now arrays.new)) result }
+        (λ c. V.Crowds x c
+        × CrowdedAt (λ w t. V.IsAt x walk.now arrays.new w t × ((V.walk x).ended t ≡ false)) (V.CrowdsAt walk.now arrays.new) c) result }
 {
     let mut w = start;
     let mut made = allowance.made;

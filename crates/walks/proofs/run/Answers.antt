@@ -1,6 +1,6 @@
 use Rattle.std.proofs.lemmas.Result.{err_from_is_err_and}
 use Rattle.std.proofs.Common.{arith, ◌∙◌}
-use Rattle.walks.proofs.RunLaws.{ends, spends, crowds-on, only-full, fills, turned}
+use Rattle.walks.proofs.RunLaws.{ends, spends, crowded-on, only-full, fills, turned}
 use Rattle.walks.proofs.run.Goals as goal
 
 pub returns-then-made-allowance : goal.returns-then-made-allowance
@@ -14,7 +14,8 @@ returns-in_err-map_err g c x s h =
     let p = err_from_is_err_and c.from_residual.result c.from_residual.ensures.1 in
     let more = c.has_ended.ensures x r.state r.shown ∙ c.loop-allowance-test.true in
     rw (p.1, p.2)
-    (crowds-on _ r.state (r.shown, more) _ c.has_room.result c.map_err.result (c.has_room.ensures x r.state r.shown) c.map_err.ensures.cases c.in_err-map_err.was)
+    (crowded-on _ r.state (r.shown, more) _ _ c.has_room.result c.map_err.result (c.has_room.ensures.room x r.state r.shown) (c.has_room.ensures.state x r.state r.shown)
+    c.map_err.ensures.cases c.in_err-map_err.was)
 
 pub returns-in_default : goal.returns-in_default
 returns-in_default g c x s h =

@@ -15,5 +15,5 @@ pub returns : goal.returns
 unfolding run_modules
 returns c p h =
     rw sub-zero at
-    (ran-as (λ _ _ k. shown-holds k.0.shows) (λ _ k. k.crowded)
+    (ran-as (λ _ _ k. shown-holds k.0.shows) (λ _ k. k.0)
     (c.run.ensures p (module_start p) (walk-starts h _ refl c.lay_out.ensures c.new-start.ensures)))

@@ -10,5 +10,5 @@ run-requires g c =
 pub returns : goal.returns
 returns g c i walked s same h =
     let r = c.of.result in
-    arrays-ran h r c.of.ensures.width c.args.group.now.split.count same
+    arrays-ran h r c.of.ensures.width walked c.args.group.now.split.count
     (c.run.ensures i walked s h.laid.count-is same (lent-walks h r c.of.ensures.width (c.of.ensures.laid i h.laid)))

@@ -11,4 +11,4 @@ visit-requires g c =
     (search rules, (search rules, (entry-left h.1 h.2.walked (lent-shows h.2.shows) r.3, (h.0, r.1, h.2, rw h.2.laid.count-is at c.requires.room))))
 
 pub returns : goal.returns
-returns g c x s h e = c.visit.ensures h.0 x s h.1 h.2
+returns g c x s h e = c.visit.ensures.came h.0 x s h.1 h.2
