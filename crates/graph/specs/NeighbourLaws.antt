@@ -211,12 +211,12 @@ shown-few {graph = graph} g s = omega (arith, pairs-few (reverse graph) g s.pair
 pub shown-room : {WORDS NEEDS : ℕ} {graph : List Need} (g : Graph WORDS NEEDS) → Shown graph g → LinkRoom g
 shown-room g s = record { from-below = s.from-below; to_below = s.to_below }
 
+pub shown-room16 : {WORDS NEEDS : ℕ} {graph : List Need} (g : Graph WORDS NEEDS) → Shown graph g → length graph < 65536 → LinkRoom16 g
+shown-room16 {graph = graph} g s h = record { most = omega (arith, h, shown-few g s); room = shown-room g s }
+
 -- Fewer than 65,536 places hold so few pairs that entries fit 16 bits.
 pub few-room : {WORDS NEEDS : ℕ} (g : Graph WORDS NEEDS) → NEEDS < 65536 → LinkRoom g → LinkRoom16 g
 few-room g h r = record { most = omega (arith, h, g.pairs.within); room = r }
-
-pub shown-room16 : {WORDS NEEDS : ℕ} {graph : List Need} (g : Graph WORDS NEEDS) → Shown graph g → length graph < 65536 → LinkRoom16 g
-shown-room16 {graph = graph} g s h = record { most = omega (arith, h, shown-few g s); room = shown-room g s }
 
 -- They are those of the needs, so that once the neighbours are chained, the needs are laid out.
 pub shown-laid : {WORDS NEEDS : ℕ} (needs : List Need) (old : Graph WORDS NEEDS) {new : Graph WORDS NEEDS} → Shown (reverse needs) old

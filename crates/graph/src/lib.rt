@@ -205,10 +205,6 @@ mod tests {
     use super::*;
     use std::test::Fail;
 
-    fn ask(holds: bool, what: &'static str) -> Result<(), &'static str> {
-        if holds { Ok(()) } else { Err(what) }
-    }
-
     // Chaining where there are no pairs: no neighbours.
     #[test]
     fn no_needs() -> Result<(), Fail> {
@@ -216,9 +212,12 @@ mod tests {
         graph.clear(2);
         graph.link();
         let dependency = graph.dependencies(NodeId(0)).next();
-        ask(dependency.is_none(), "dependencies of 0")?;
+        dependency
+            .is_none()
+            .then_some(())
+            .ok_or("dependencies of 0")?;
         let dependant = graph.dependants(NodeId(0)).next();
-        ask(dependant.is_none(), "dependants of 0")?;
+        dependant.is_none().then_some(()).ok_or("dependants of 0")?;
         Ok(())
     }
 
@@ -230,24 +229,45 @@ mod tests {
         graph.add_edge(NodeId(0), NodeId(1), WeightByte(1));
         graph.link();
         let dependency = graph.dependencies(NodeId(0)).next();
-        ask(dependency.is_some_and(|x| x.0 == 1), "dependency of 0")?;
+        dependency
+            .is_some_and(|x| x.0 == 1)
+            .then_some(())
+            .ok_or("dependency of 0")?;
         let dependant = graph.dependants(NodeId(1)).next();
-        ask(dependant.is_some_and(|x| x.0 == 0), "dependant of 1")?;
+        dependant
+            .is_some_and(|x| x.0 == 0)
+            .then_some(())
+            .ok_or("dependant of 1")?;
         let none = graph.dependencies(NodeId(1)).next();
-        ask(none.is_none(), "dependencies of 1")?;
-        ask(graph.has_path(NodeId(0), NodeId(1)), "path from 0 to 1")?;
-        ask(!graph.has_path(NodeId(1), NodeId(0)), "path from 1 to 0")?;
-        ask(graph.is_weak(NodeId(0), NodeId(1)), "weight of 0 and 1")?;
+        none.is_none().then_some(()).ok_or("dependencies of 1")?;
+        graph
+            .has_path(NodeId(0), NodeId(1))
+            .then_some(())
+            .ok_or("path from 0 to 1")?;
+        (!graph.has_path(NodeId(1), NodeId(0)))
+            .then_some(())
+            .ok_or("path from 1 to 0")?;
+        graph
+            .is_weak(NodeId(0), NodeId(1))
+            .then_some(())
+            .ok_or("weight of 0 and 1")?;
         graph.lay_out_none(2);
         let dependency = graph.dependencies(NodeId(0)).next();
-        ask(dependency.is_none(), "dependencies of 0, laid out anew")?;
+        dependency
+            .is_none()
+            .then_some(())
+            .ok_or("dependencies of 0, laid out anew")?;
         let dependant = graph.dependants(NodeId(1)).next();
-        ask(dependant.is_none(), "dependants of 1, laid out anew")?;
-        ask(!graph.has_path(NodeId(0), NodeId(1)), "path, laid out anew")?;
-        ask(
-            !graph.is_weak(NodeId(0), NodeId(1)),
-            "weight, laid out anew",
-        )?;
+        dependant
+            .is_none()
+            .then_some(())
+            .ok_or("dependants of 1, laid out anew")?;
+        (!graph.has_path(NodeId(0), NodeId(1)))
+            .then_some(())
+            .ok_or("path, laid out anew")?;
+        (!graph.is_weak(NodeId(0), NodeId(1)))
+            .then_some(())
+            .ok_or("weight, laid out anew")?;
         Ok(())
     }
 }
